@@ -29,27 +29,37 @@ fn instructions(alloc: Global, words: &[CodeWord]) -> Result<Vec<Ins>, AllocErro
     words.iter().map(|word| word.ins).collect(alloc)
 }
 
+/// How blocks are made of words.
+#[derive(Clone, Copy)]
+pub(crate) struct Cutting<'a> {
+    /// Whether a word at no leader is a block.
+    every: bool,
+    /// The addresses that are reached.
+    reached: &'a BTreeSet<u64>,
+    options: &'a Options,
+}
+
 /// The block that begins with the first of these words, which is at a leader. The first leader behind it is `next`.
 fn long_block(
     alloc: Global,
     words: &[CodeWord],
     next: Option<u64>,
-    reached: &BTreeSet<u64>,
-    options: &Options,
+    cutting: &Cutting<'_>,
 ) -> Result<CodeBlock, AllocError>
     requires some { 1 ≤ length words.now }
-    requires sound { AreSoundOptions options.now }
-    ensures { IfOk result (IsLongBlock (is_at next) (has_address reached.now) options.now.inst_max words.now) }
+    requires sound { AreSoundOptions cutting.now.options.now }
+    ensures { IfOk result (IsLongBlock (is_at next) (has_address cutting.now.reached.now) cutting.now.options.now.inst_max words.now) }
 {
     let found = body_extent(words, next);
     let body = instructions(alloc, &words[..found.size])?;
-    let lengths = split(alloc, &body, options.inst_min, options.inst_max)?;
+    let (least, most) = (cutting.options.inst_min, cutting.options.inst_max);
+    let lengths = split(alloc, &body, least, most)?;
     Ok(CodeBlock {
         start: words[0].at,
         body: Listed::of(body),
         lengths: Listed::of(lengths),
         end: found.end,
-        reached: reached.contains(&words[0].at),
+        reached: cutting.reached.contains(&words[0].at),
     })
 }
 
@@ -81,23 +91,22 @@ fn short_block(alloc: Global, word: &CodeWord) -> Result<CodeBlock, AllocError>
 }
 
 /// Adds the block that begins with the first of these words, where one does: `leads` says whether that is a leader.
+#[tactic(auto, using(crate::proofs::BuiltLaws::adds_long, crate::proofs::BuiltLaws::adds_short, crate::proofs::BuiltLaws::adds_none))]
 fn push_block(
     blocks: &mut Vec<CodeBlock>,
     words: &[CodeWord],
     leads: bool,
     next: Option<u64>,
-    every: bool,
-    reached: &BTreeSet<u64>,
-    options: &Options,
+    cutting: &Cutting<'_>,
 ) -> Result<(), AllocError>
     requires some { 1 ≤ length words.now }
-    requires sound { AreSoundOptions options.now }
-    ensures { OnOk result (AddsBlock leads (is_at next) every (has_address reached.now) options.now.inst_max words.now blocks.old.items blocks.new.items) }
+    requires sound { AreSoundOptions cutting.now.options.now }
+    ensures { OnOk result (AddsBlock leads (is_at next) cutting.now.every (has_address cutting.now.reached.now) cutting.now.options.now.inst_max words.now blocks.old.items blocks.new.items) }
 {
     let alloc = *blocks.allocator();
     if leads {
-        blocks.push(long_block(alloc, words, next, reached, options)?)?;
-    } else if every {
+        blocks.push(long_block(alloc, words, next, cutting)?)?;
+    } else if cutting.every {
         blocks.push(short_block(alloc, &words[0])?)?;
     }
     Ok(())
@@ -124,17 +133,16 @@ fn behind(address: u64, leaders: &[u64]) -> &[u64]
 }
 
 /// The blocks of words, with the leaders at them.
+#[tactic(auto, using(std::proofs::lemmas::List::take_rest, crate::proofs::BuiltLaws::all_built, crate::proofs::BuiltLaws::next_built))]
 pub(crate) fn list(
     alloc: Global,
     words: &[CodeWord],
     leaders: &[u64],
-    every: bool,
-    reached: &BTreeSet<u64>,
-    options: &Options,
+    cutting: &Cutting<'_>,
 ) -> Result<Vec<CodeBlock>, AllocError>
-    requires sound { AreSoundOptions options.now }
+    requires sound { AreSoundOptions cutting.now.options.now }
     requires along { AreAlong words.now leaders.now }
-    ensures { IfOk result (λ blocks. Built (lists leaders.now) every (has_address reached.now) options.now.inst_max words.now blocks.items) }
+    ensures { IfOk result (λ blocks. Built (lists leaders.now) cutting.now.every (has_address cutting.now.reached.now) cutting.now.options.now.inst_max words.now blocks.items) }
 {
     let mut blocks = Vec::new(alloc);
     let mut left = leaders;
@@ -142,15 +150,7 @@ pub(crate) fn list(
         let address = words[at].at;
         let leads = is_at(first(left), address);
         left = behind(address, left);
-        push_block(
-            &mut blocks,
-            &words[at..],
-            leads,
-            first(left),
-            every,
-            reached,
-            options,
-        )?;
+        push_block(&mut blocks, &words[at..], leads, first(left), cutting)?;
     }
     Ok(blocks)
 }
@@ -182,13 +182,11 @@ pub fn blocks(
     let leaders = leaders(alloc, test, file, options)?;
     let every = has_every(test, options);
     let reached = entered(alloc, test, file, options)?;
-    let list = list(
-        alloc,
-        test.code.as_slice(),
-        leaders.as_slice(),
+    let cutting = Cutting {
         every,
-        &reached,
+        reached: &reached,
         options,
-    )?;
+    };
+    let list = list(alloc, test.code.as_slice(), leaders.as_slice(), &cutting)?;
     Ok(Listed::of(list))
 }

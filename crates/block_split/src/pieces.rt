@@ -18,6 +18,7 @@ fn push_times(lengths: &mut Vec<u64>, times: u64, length: u64) -> Result<(), All
 }
 
 /// How many pieces of at most `max` instructions a run of `size` instructions has: the fewest, and from 1 to `size`.
+#[tactic(auto, using(crate::proofs::PieceCounts::count_is, crate::proofs::PieceCounts::count_some, crate::proofs::PieceCounts::count_few))]
 fn piece_count(size: u64, max: u64) -> u64
     requires some { 1 ≤ size }
     requires least { 1 ≤ max }
@@ -43,6 +44,7 @@ fn push_lengths(lengths: &mut Vec<u64>, size: u64, max: u64) -> Result<(), Alloc
 
 /// The lengths of the pieces of a body, in instructions: one that is 0 where the body is empty. `min` changes no length: it is
 /// the floor that `max` leaves room for, so that a piece is shorter than it only where its run is.
+#[tactic(auto, using(std::proofs::lemmas::List::take_rest, crate::proofs::PieceLengths::made_lengths, crate::proofs::PieceLengths::empty_lengths, crate::proofs::PieceLengths::more_made, crate::proofs::PieceLengths::all_made, crate::proofs::PieceLengths::is_nil, crate::proofs::PieceLengths::is_some, crate::proofs::PieceLengths::within_body, crate::proofs::PieceLengths::rest_some, crate::proofs::PieceLengths::some_run, crate::proofs::PieceLengths::added))]
 pub fn split(alloc: Global, body: &[Ins], min: u64, max: u64) -> Result<Vec<u64>, AllocError>
     requires least { 1 ≤ min }
     requires room { 2 * min ≤ max + 1 }

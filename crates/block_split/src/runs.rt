@@ -27,6 +27,7 @@ fn note_written(written: &mut [bool; 32], instruction: &Ins)
 }
 
 /// How many instructions the longest run from the first on has.
+#[tactic(auto, using(crate::proofs::RunLaws::stopped, crate::proofs::RunLaws::noted, crate::proofs::RunLaws::ran, crate::proofs::RunLaws::none_set))]
 pub fn run_length(body: &[Ins]) -> usize
     ensures { IsLongestRun body.now result }
 {

@@ -24,7 +24,7 @@ use Rattle.machine.specs.Members.{Among}
 use Rattle.qed_model.specs.Weave.Blocks.{IsEntered, Options}
 use Rattle.flow_recovery.specs.Sets.{lists, Adds}
 use Rattle.qed_model.proofs.Lemmas.{reached_by}
-use Rattle.flow_recovery.specs.Words.{leads_to, ends_before, begins_by, is_begun, is_chosen, is_entered, is_even, is_leveled, of_code}
+use Rattle.flow_recovery.specs.Words.{leads_to, ends_before, begins_by, is_begun, is_chosen, is_entered, is_even, of_code}
 use Rattle.flow_recovery.specs.Leaders.{AreLeaders}
 use Rattle.flow_recovery.proofs.SetLaws.{adds_first, adds_then}
 use Rattle.flow_recovery.proofs.CodeLaws.{code_word, standing_word, stands_word}
@@ -33,11 +33,13 @@ use Rattle.flow_recovery.proofs.OrderLaws.{pairs_of, rising, listed, among_liste
 -- ---- what was collected
 -- one step behind the other, from an empty set on
 pub collected :
-    (entry : ℕ) (words : List CodeWord) (symbols : List Symbol) (relas : List Rela) (s t u v w : List ℕ)
-    → s ≡ [] → Adds s t (λ a. entry == a) → Adds t u (λ a. list_any (λ c. begins_by c a) words) → Adds u v (is_named symbols) → Adds v w (is_relocated symbols relas)
-    → (a : ℕ) → lists w a ≡ is_begun entry words symbols relas a
-collected entry words symbols relas s t u v w empty first begun by_symbols by_relas =
-    adds_first s w (is_begun entry words symbols relas) empty (adds_then s t w _ _ first (adds_then t u w _ _ begun (adds_then u v w _ _ by_symbols by_relas)))
+    (f : ElfFile) (o : Options) (t : Test) (words : List CodeWord) (symbols : List Symbol) (relas : List Rela) (s u v w x : List ℕ)
+    → words ≡ t.code → symbols ≡ f.symbols → relas ≡ f.relas
+    → s ≡ [] → Adds s u (λ a. t.entry == a) → Adds u v (λ a. list_any (λ c. begins_by o c a) words) → Adds v w (is_named symbols) → Adds w x (is_relocated symbols relas)
+    → (a : ℕ) → lists x a ≡ is_begun o t.entry t.code f.symbols f.relas a
+collected f o t words symbols relas s u v w x code by_symbols by_relas empty first begun named relocated a =
+    adds_first s x (is_begun o t.entry words symbols relas) empty (adds_then s u x _ _ first (adds_then u v x _ _ begun (adds_then v w x _ _ named relocated))) a
+    ∙ (λ i. is_begun o t.entry (code i) (by_symbols i) (by_relas i) a)
 
 -- ---- JALR
 abbrev has_jalr : List CodeWord → Bool
@@ -63,27 +65,33 @@ module _ (f : ElfFile) (o : Options) (t : Test) (told : IsTestOf f o t) where
 
   -- by the entry, the words, the symbols and the relocations
   abbrev is_named_by : ℕ → Bool
-  is_named_by a = is_begun t.entry code f.symbols f.relas a
+  is_named_by a = is_begun o t.entry code f.symbols f.relas a
 
   -- or because it is reached
-  abbrev is_known : ℕ → Bool
-  is_known a = is_named_by a || is_entered f o t a
-
-  -- or as a multiple
   abbrev is_found : ℕ → Bool
-  is_found a = is_known a || is_leveled o code a
+  is_found a = is_named_by a || is_entered f o t a
 
-  by_word : (c : CodeWord) (a : ℕ) → Among c code → begins_by c a ≡ true → Begins f o a
+  by_even : (c : CodeWord) (a : ℕ) → is_even o c a ≡ true → Begins f o a
+  by_even c a e =
+      let p = and_parts (is_some o.lean) ((c.at % (4 * o.inst_max) == 0) && (c.at == a)) e in
+      let q = and_parts (c.at % (4 * o.inst_max) == 0) (c.at == a) p.1 in
+      Even p.0 (ap (λ x. x % (4 * o.inst_max)) (sym (eqb-true c.at a q.1)) ∙ eqb-true (c.at % (4 * o.inst_max)) 0 q.0)
+
+  by_word : (c : CodeWord) (a : ℕ) → Among c code → begins_by o c a ≡ true → Begins f o a
   by_word c a m e =
       ⊎_elim
       (λ h.
       let p = and_parts (has_target (class_of c.ins.kind)) (target c.ins c.at == a) h in
       Target c.at (stands_word f code words has_target c m p.0) (sym (eqb-true (target c.ins c.at) a p.1)))
       (λ h.
-      let p = and_parts (is_end (class_of c.ins.kind)) (nat_lt a (2 ^ 64) && (c.at + 4 == a)) h in
+      ⊎_elim
+      (λ k.
+      let p = and_parts (is_end (class_of c.ins.kind)) (nat_lt a (2 ^ 64) && (c.at + 4 == a)) k in
       let q = and_parts (nat_lt a (2 ^ 64)) (c.at + 4 == a) p.1 in
       After c.at (stands_word f code words is_end c m p.0) (sym (eqb-true (c.at + 4) a q.1)))
-      (or_cases (leads_to c a) (ends_before c a) e)
+      (by_even c a)
+      (or_cases (ends_before c a) (is_even o c a) h))
+      (or_cases (leads_to c a) (ends_before c a || is_even o c a) e)
 
   by_name : (a : ℕ) → is_named_by a ≡ true → Begins f o a
   by_name a e =
@@ -91,10 +99,10 @@ module _ (f : ElfFile) (o : Options) (t : Test) (told : IsTestOf f o t) where
       (λ h. Entry (sym (eqb-true t.entry a h) ∙ told.entry))
       (λ h.
       ⊎_elim
-      (λ k. let p = passing (λ c. begins_by c a) code k in by_word p.member a p.among p.passes)
+      (λ k. let p = passing (λ c. begins_by o c a) code k in by_word p.member a p.among p.passes)
       (λ k. Named k)
-      (or_cases (list_any (λ c. begins_by c a) code) (is_named_in f a) h))
-      (or_cases (t.entry == a) (list_any (λ c. begins_by c a) code || is_named_in f a) e)
+      (or_cases (list_any (λ c. begins_by o c a) code) (is_named_in f a) h))
+      (or_cases (t.entry == a) (list_any (λ c. begins_by o c a) code || is_named_in f a) e)
 
   pub entered : (a : ℕ) → (is_entered f o t a ≡ true) ↔ IsEntered f o a
   entered a = (
@@ -110,53 +118,41 @@ module _ (f : ElfFile) (o : Options) (t : Test) (told : IsTestOf f o t) where
   by_reach : (a : ℕ) → is_entered f o t a ≡ true → Begins f o a
   by_reach a e = let h = (entered a).0 e in Reached h.0 h.1 h.2
 
-  by_level : (a : ℕ) → is_leveled o code a ≡ true → Begins f o a
-  by_level a e =
-      let p = and_parts (is_some o.lean) (list_any (λ c. is_even (4 * o.inst_max) c a) code) e in
-      let k = passing (λ c. is_even (4 * o.inst_max) c a) code p.1 in
-      let q = and_parts (k.member.at % (4 * o.inst_max) == 0) (k.member.at == a) k.passes in
-      Even p.0 (ap (λ x. x % (4 * o.inst_max)) (sym (eqb-true k.member.at a q.1)) ∙ eqb-true (k.member.at % (4 * o.inst_max)) 0 q.0)
-
   begun : (a : ℕ) → is_found a ≡ true → Begins f o a
-  begun a e = ⊎_elim (λ k. ⊎_elim (λ n. by_name a n) (λ r. by_reach a r) (or_cases (is_named_by a) (is_entered f o t a) k)) (λ v. by_level a v) (or_cases (is_known a) (is_leveled o code a) e)
+  begun a e = ⊎_elim (by_name a) (by_reach a) (or_cases (is_named_by a) (is_entered f o t a) e)
 
   -- ---- and the other way
-  by_any : (c : CodeWord) (a : ℕ) → Among c code → begins_by c a ≡ true → is_known a ≡ true
+  by_any : (c : CodeWord) (a : ℕ) → Among c code → begins_by o c a ≡ true → is_found a ≡ true
   by_any c a m e =
       or_left (is_named_by a) (is_entered f o t a)
-      (or_right (t.entry == a) (list_any (λ c. begins_by c a) code || is_named_in f a) (or_left (list_any (λ c. begins_by c a) code) (is_named_in f a) (any_passing (λ c. begins_by c a) c code m e)))
-
-  by_word_at : (c : CodeWord) (a : ℕ) → Among c code → a ≡ c.at → is_some o.lean ≡ true → a % (4 * o.inst_max) ≡ 0 → is_leveled o code a ≡ true
-  by_word_at c a m at lean multiple =
-      and_from (is_some o.lean) (list_any (λ d. is_even (4 * o.inst_max) d a) code) lean
-      (any_passing (λ d. is_even (4 * o.inst_max) d a) c code m
-      (and_from (c.at % (4 * o.inst_max) == 0) (c.at == a) (eq-eqb (c.at % (4 * o.inst_max)) 0 (ap (λ x. x % (4 * o.inst_max)) (sym at) ∙ multiple)) (eq-eqb c.at a (sym at))))
-
-  level : (a : ℕ) → is_known a ≡ true → is_found a ≡ true
-  level a e = or_left (is_known a) (is_leveled o code a) e
+      (or_right (t.entry == a) (list_any (λ c. begins_by o c a) code || is_named_in f a) (or_left (list_any (λ c. begins_by o c a) code) (is_named_in f a) (any_passing (λ c. begins_by o c a) c code m e)))
 
   found : (a : ℕ) → a < 2 ^ 64 → is_code f a ≡ true → Begins f o a → is_found a ≡ true
   found a lt stands (Entry e) =
-      level a (or_left (is_named_by a) (is_entered f o t a) (or_left (t.entry == a) (list_any (λ c. begins_by c a) code || is_named_in f a) (eq-eqb t.entry a (told.entry ∙ sym e))))
+      or_left (is_named_by a) (is_entered f o t a) (or_left (t.entry == a) (list_any (λ c. begins_by o c a) code || is_named_in f a) (eq-eqb t.entry a (told.entry ∙ sym e)))
   found a lt stands (Target i s e) =
       let w = standing_word f code words has_target i s in
       let is : target w.word.ins w.word.at ≡ a = ap (λ x. target x w.word.at) (sym w.instruction) ∙ ap (λ x. target s.instruction x) (sym w.at) ∙ sym e in
-      level a (by_any w.word a w.among (or_left (leads_to w.word a) (ends_before w.word a) (and_from (has_target (class_of w.word.ins.kind)) (target w.word.ins w.word.at == a) w.class (eq-eqb (target w.word.ins w.word.at) a is))))
+      by_any w.word a w.among (or_left (leads_to w.word a) (ends_before w.word a || is_even o w.word a) (and_from (has_target (class_of w.word.ins.kind)) (target w.word.ins w.word.at == a) w.class (eq-eqb (target w.word.ins w.word.at) a is)))
   found a lt stands (After i s e) =
       let w = standing_word f code words is_end i s in
       let is : w.word.at + 4 ≡ a = ap (λ x. x + 4) (sym w.at) ∙ sym e in
-      level a
-      (by_any w.word a w.among
-      (or_right (leads_to w.word a) (ends_before w.word a)
+      by_any w.word a w.among
+      (or_right (leads_to w.word a) (ends_before w.word a || is_even o w.word a)
+      (or_left (ends_before w.word a) (is_even o w.word a)
       (and_from (is_end (class_of w.word.ins.kind)) (nat_lt a (2 ^ 64) && (w.word.at + 4 == a)) w.class
       (and_from (nat_lt a (2 ^ 64)) (w.word.at + 4 == a) (lt-ltb a (2 ^ 64) lt) (eq-eqb (w.word.at + 4) a is)))))
   found a lt stands (Named e) =
-      level a
-      (or_left (is_named_by a) (is_entered f o t a) (or_right (t.entry == a) (list_any (λ c. begins_by c a) code || is_named_in f a) (or_right (list_any (λ c. begins_by c a) code) (is_named_in f a) e)))
-  found a lt stands (Reached e h r) =
-      level a
-      (or_right (is_named_by a) (is_entered f o t a) ((entered a).1 (e, h, r)))
-  found a lt stands (Even lean multiple) = let w = code_word f code words a stands in or_right (is_known a) (is_leveled o code a) (by_word_at w.word a w.among w.at lean multiple)
+      or_left (is_named_by a) (is_entered f o t a) (or_right (t.entry == a) (list_any (λ c. begins_by o c a) code || is_named_in f a) (or_right (list_any (λ c. begins_by o c a) code) (is_named_in f a) e))
+  found a lt stands (Reached e h r) = or_right (is_named_by a) (is_entered f o t a) ((entered a).1 (e, h, r))
+  found a lt stands (Even lean multiple) =
+      let w = code_word f code words a stands in
+      let at = w.word.at in
+      by_any w.word a w.among
+      (or_right (leads_to w.word a) (ends_before w.word a || is_even o w.word a)
+      (or_right (ends_before w.word a) (is_even o w.word a)
+      (and_from (is_some o.lean) ((at % (4 * o.inst_max) == 0) && (at == a)) lean
+      (and_from (at % (4 * o.inst_max) == 0) (at == a) (eq-eqb (at % (4 * o.inst_max)) 0 (ap (λ x. x % (4 * o.inst_max)) (sym w.at) ∙ multiple)) (eq-eqb at a (sym w.at))))))
 
   -- ---- those of the code
   module _ (small : All (λ c. c.at < 2 ^ 64) code) where
@@ -193,23 +189,15 @@ module _ (f : ElfFile) (o : Options) (t : Test) (told : IsTestOf f o t) where
           stands_at : (a : ℕ) → IsLeader f o a → Among a addresses
           stands_at a l = among_of a addresses ((words.addresses.all a).1 l.code)
 
--- the same of lists that are those of the test and of the file, in which what is named and what is reached were listed
+-- the same of words that are those of the test
 pub leaders_found :
-    (f : ElfFile) (o : Options) (t : Test) (listed : List CodeWord) (symbols : List Symbol) (relas : List Rela) (u v w leaders : List ℕ)
-    → listed ≡ t.code → symbols ≡ f.symbols → relas ≡ f.relas → IsTestOf f o t → All (λ c. c.at < 2 ^ 64) listed
-    → ((a : ℕ) → lists u a ≡ is_begun t.entry listed symbols relas a) → Adds u v (is_entered f o t) → Adds v w (is_leveled o listed)
-    → (AllPairs (λ a b. a < b) (map (λ c. c.at) listed) → leaders ≡ filter (lists w) (map (λ c. c.at) listed)) → AreLeaders f o t.code leaders
-leaders_found f o t listed symbols relas u v w leaders code by_symbols by_relas told small named entered leveled kept =
-    leaders_are f o t told (subst (All (λ (c : CodeWord). c.at < 2 ^ 64)) code small) w leaders found_in
-    ((subst (λ (cs : List CodeWord). AllPairs (λ a b. a < b) (map (λ c. c.at) cs) → leaders ≡ filter (lists w) (map (λ c. c.at) cs)) code kept) told.code.addresses.ascend) where
-      known_in : (a : ℕ) → lists v a ≡ is_known f o t told a
-      known_in a =
-          entered.each a
-          ∙ ap (λ b. b || is_entered f o t a)
-          (named a ∙ ap (λ ws. is_begun t.entry ws symbols relas a) code ∙ ap (λ ss. is_begun t.entry t.code ss relas a) by_symbols ∙ ap (λ rs. is_begun t.entry t.code f.symbols rs a) by_relas)
-
-      found_in : (a : ℕ) → lists w a ≡ is_found f o t told a
-      found_in a = leveled.each a ∙ ap (λ b. b || is_leveled o listed a) (known_in a) ∙ ap (λ ws. is_known f o t told a || is_leveled o ws a) code
+    (f : ElfFile) (o : Options) (t : Test) (listed : List CodeWord) (u v leaders : List ℕ)
+    → listed ≡ t.code → IsTestOf f o t → All (λ c. c.at < 2 ^ 64) t.code
+    → ((a : ℕ) → lists u a ≡ is_begun o t.entry t.code f.symbols f.relas a) → Adds u v (is_entered f o t)
+    → (AllPairs (λ a b. a < b) (map (λ c. c.at) listed) → leaders ≡ filter (lists v) (map (λ c. c.at) listed)) → AreLeaders f o t.code leaders
+leaders_found f o t listed u v leaders code told small named entered kept =
+    leaders_are f o t told small v leaders (λ a. entered.each a ∙ ap (λ b. b || is_entered f o t a) (named a))
+    ((subst (λ (cs : List CodeWord). AllPairs (λ a b. a < b) (map (λ c. c.at) cs) → leaders ≡ filter (lists v) (map (λ c. c.at) cs)) code kept) told.code.addresses.ascend)
 
 -- what was sorted, along the words
 pub begun_is : (list sorted slice kept : List ℕ) (words : List CodeWord) → IsPermutation list sorted → IsSorted nat_cmp sorted → slice ≡ sorted → kept ≡ of_code slice words → AllPairs (λ a b. a < b) (map (λ c. c.at) words) → kept ≡ filter (lists list) (map (λ c. c.at) words)

@@ -1,4 +1,4 @@
--- Where blocks begin, by lists of words, symbols and relocations, by what is reached, and in the lean form by multiples.
+-- Where blocks begin, by lists of words, symbols and relocations, and by what is reached.
 use Rattle.std.specs.Prelude.{ℕ, ◌+◌, ◌*◌, ◌%◌, ◌^◌, ◌==◌, ◌&&◌, ◌||◌, Bool, true, false, if◌then◌else◌, nat_lt, is_some, List, [], ◌∷◌}
 use Rattle.std.specs.List.{list_any}
 use Rattle.elf_types.specs.declared.file.Symbol.{Symbol}
@@ -22,13 +22,17 @@ leads_to c a = has_target (class_of c.ins.kind) && (target c.ins c.at == a)
 abbrev pub ends_before : CodeWord → ℕ → Bool
 ends_before c a = is_end (class_of c.ins.kind) && (nat_lt a (2 ^ 64) && (c.at + 4 == a))
 
--- either
-abbrev pub begins_by : CodeWord → ℕ → Bool
-begins_by c a = leads_to c a || ends_before c a
+-- in the lean form it is that of the word, and a multiple of so many words as a piece has at most
+abbrev pub is_even : Options → CodeWord → ℕ → Bool
+is_even o c a = is_some o.lean && ((c.at % (4 * o.inst_max) == 0) && (c.at == a))
+
+-- any of these
+abbrev pub begins_by : Options → CodeWord → ℕ → Bool
+begins_by o c a = leads_to c a || (ends_before c a || is_even o c a)
 
 -- the address is the entry, or a word, a symbol or a relocation names it
-abbrev pub is_begun : ℕ → List CodeWord → List Symbol → List Rela → ℕ → Bool
-is_begun entry words symbols relas a = (entry == a) || (list_any (λ c. begins_by c a) words || (is_named symbols a || is_relocated symbols relas a))
+abbrev pub is_begun : Options → ℕ → List CodeWord → List Symbol → List Rela → ℕ → Bool
+is_begun o entry words symbols relas a = (entry == a) || (list_any (λ c. begins_by o c a) words || (is_named symbols a || is_relocated symbols relas a))
 
 -- of other addresses those alone have entries that are reached
 abbrev pub is_chosen : Entries → Bool
@@ -38,14 +42,6 @@ is_chosen entries.Reached = true
 -- the address is such a one, and some word is a JALR
 abbrev pub is_entered : ElfFile → Options → Test → ℕ → Bool
 is_entered f o t a = is_chosen o.entries && (list_any (λ c. is_indirect (class_of c.ins.kind)) t.code && is_reached f t a)
-
--- the address, a multiple of so many bytes, is that of the word
-abbrev pub is_even : ℕ → CodeWord → ℕ → Bool
-is_even size c a = (c.at % size == 0) && (c.at == a)
-
--- in the lean form it is that of some word, and a multiple of so many words as a piece has at most
-abbrev pub is_leveled : Options → List CodeWord → ℕ → Bool
-is_leveled o words a = is_some o.lean && list_any (λ c. is_even (4 * o.inst_max) c a) words
 
 -- those of ascending addresses at which words stand
 abbrev pub of_code : List ℕ → List CodeWord → List ℕ

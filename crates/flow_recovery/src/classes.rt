@@ -9,38 +9,29 @@ use rv_isa::Class;
 pub fn has_target(class: Class) -> bool
     ensures { result ≡ has_target class }
 {
-    match class {
-        Class::Jump | Class::Branch => true,
-        _ => false,
-    }
+    matches!(class, Class::Jump | Class::Branch)
 }
 
 /// Whether a block ends with it: branches, JAL, JALR, ECALL and the zero word.
 pub fn is_end(class: Class) -> bool
     ensures { result ≡ is_end class }
 {
-    match class {
-        Class::Branch | Class::Jump | Class::JumpReg | Class::End | Class::Illegal => true,
-        _ => false,
-    }
+    matches!(
+        class,
+        Class::Branch | Class::Jump | Class::JumpReg | Class::End | Class::Illegal
+    )
 }
 
 /// Whether it leads to an address that a register holds: JALR.
 pub fn is_indirect(class: Class) -> bool
     ensures { result ≡ is_indirect class }
 {
-    match class {
-        Class::JumpReg => true,
-        _ => false,
-    }
+    matches!(class, Class::JumpReg)
 }
 
 /// Whether it writes the address behind it to a register: JAL and JALR.
 pub(crate) fn is_jump(class: Class) -> bool
     ensures { result ≡ is_jump class }
 {
-    match class {
-        Class::Jump | Class::JumpReg => true,
-        _ => false,
-    }
+    matches!(class, Class::Jump | Class::JumpReg)
 }

@@ -18,6 +18,7 @@ const NEAR: usize = 16;
 const GP: u8 = 3;
 
 /// Adds a constant, and where tables of distances from it lead.
+#[tactic(auto, using(crate::proofs::SetLaws::adds_then), unfolding(tests::specs::Admission::Reached::leads))]
 fn add_constant(list: &mut Vec<u64>, test: &Test, value: u64) -> Result<(), AllocError>
     ensures { OnOk result (Adds list.old.items list.new.items (leads test.now value)) }
 {
@@ -26,52 +27,44 @@ fn add_constant(list: &mut Vec<u64>, test: &Test, value: u64) -> Result<(), Allo
     Ok(())
 }
 
-/// Whether a kind adds its immediate to a register: ADDI, ADDIW and JALR.
-fn is_sum(kind: Kind) -> bool
-    ensures { result ≡ is_sum kind }
-{
-    match kind {
-        Kind::Addi | Kind::Addiw | Kind::Jalr => true,
-        _ => false,
-    }
-}
-
-/// Whether an instruction adds its immediate to the register of this number.
+/// Whether an instruction adds its immediate to the register of this number: ADDI, ADDIW and JALR.
 fn adds_to(register: u8, ins: &Ins) -> bool
     ensures { result ≡ adds_to register ins.now }
 {
-    is_sum(ins.kind) && ins.rs1.number() == register
+    matches!(ins.kind, Kind::Addi | Kind::Addiw | Kind::Jalr) && ins.rs1.number() == register
+}
+
+/// A value that a register has, and the words that may use it.
+#[derive(Clone, Copy)]
+struct Known<'a> {
+    near: &'a [CodeWord],
+    register: Reg,
+    value: u64,
 }
 
 /// Adds what a word makes of a register's value.
 fn add_sum(
     list: &mut Vec<u64>,
     test: &Test,
-    register: Reg,
-    value: u64,
+    known: &Known<'_>,
     word: &CodeWord,
 ) -> Result<(), AllocError>
-    ensures { OnOk result (Adds list.old.items list.new.items (λ a. sum_leads test.now register value a word.now)) }
+    ensures { OnOk result (Adds list.old.items list.new.items (λ a. sum_leads test.now known.now.register known.now.value a word.now)) }
 {
-    if adds_to(register.number(), &word.ins) {
-        add_constant(list, test, target_from(&word.ins, value))?;
+    if adds_to(known.register.number(), &word.ins) {
+        add_constant(list, test, target_from(&word.ins, known.value))?;
     }
     Ok(())
 }
 
 /// Adds a register's value, and what the immediate of one word near by makes of it.
-fn add_once(
-    list: &mut Vec<u64>,
-    test: &Test,
-    near: &[CodeWord],
-    register: Reg,
-    value: u64,
-) -> Result<(), AllocError>
-    ensures { OnOk result (Adds list.old.items list.new.items (once test.now near.now register value)) }
+#[tactic(auto, using(crate::proofs::SetLaws::adds_more, crate::proofs::SetLaws::adds_all), unfolding(tests::specs::Admission::Reached::once))]
+fn add_once(list: &mut Vec<u64>, test: &Test, known: &Known<'_>) -> Result<(), AllocError>
+    ensures { OnOk result (Adds list.old.items list.new.items (once test.now known.now.near.now known.now.register known.now.value)) }
 {
-    add_constant(list, test, value)?;
-    for word in near {
-        add_sum(list, test, register, value, word)?;
+    add_constant(list, test, known.value)?;
+    for word in known.near {
+        add_sum(list, test, known, word)?;
     }
     Ok(())
 }
@@ -98,52 +91,38 @@ fn near_by<'a>(test: &'a Test, near: &'a [CodeWord], register: Reg) -> &'a [Code
 fn add_sums(
     list: &mut Vec<u64>,
     test: &Test,
-    near: &[CodeWord],
-    register: Reg,
-    value: u64,
+    known: &Known<'_>,
     word: &CodeWord,
 ) -> Result<(), AllocError>
-    ensures { OnOk result (Adds list.old.items list.new.items (λ a. sums_lead test.now near.now register value a word.now)) }
+    ensures { OnOk result (Adds list.old.items list.new.items (λ a. sums_lead test.now known.now.near.now known.now.register known.now.value a word.now)) }
 {
-    if adds_to(register.number(), &word.ins) {
-        let near = near_by(test, near, word.ins.rd);
-        add_once(list, test, near, word.ins.rd, target_from(&word.ins, value))?;
+    if adds_to(known.register.number(), &word.ins) {
+        let next = Known {
+            near: near_by(test, known.near, word.ins.rd),
+            register: word.ins.rd,
+            value: target_from(&word.ins, known.value),
+        };
+        add_once(list, test, &next)?;
     }
     Ok(())
 }
 
 /// Adds a register's value, and what the immediates of at most two words near by make of it.
-fn add_twice(
-    list: &mut Vec<u64>,
-    test: &Test,
-    near: &[CodeWord],
-    register: Reg,
-    value: u64,
-) -> Result<(), AllocError>
-    ensures { OnOk result (Adds list.old.items list.new.items (twice test.now near.now register value)) }
+fn add_twice(list: &mut Vec<u64>, test: &Test, known: &Known<'_>) -> Result<(), AllocError>
+    ensures { OnOk result (Adds list.old.items list.new.items (twice test.now known.now.near.now known.now.register known.now.value)) }
 {
-    add_constant(list, test, value)?;
-    for word in near {
-        add_sums(list, test, near, register, value, word)?;
+    add_constant(list, test, known.value)?;
+    for word in known.near {
+        add_sums(list, test, known, word)?;
     }
     Ok(())
-}
-
-/// Whether a kind makes a constant of its own: LUI and AUIPC.
-fn is_upper(kind: Kind) -> bool
-    ensures { result ≡ is_upper kind }
-{
-    match kind {
-        Kind::Lui | Kind::Auipc => true,
-        _ => false,
-    }
 }
 
 /// Whether an instruction makes a constant: LUI, AUIPC, and an addition to x0.
 fn makes_constant(ins: &Ins) -> bool
     ensures { result ≡ makes_constant ins.now }
 {
-    is_upper(ins.kind) || adds_to(0, ins)
+    matches!(ins.kind, Kind::Lui | Kind::Auipc) || adds_to(0, ins)
 }
 
 /// The constant that such a word makes.
@@ -167,8 +146,12 @@ fn add_made(
     ensures { OnOk result (Adds list.old.items list.new.items (made_by test.now near.now word.now)) }
 {
     if makes_constant(&word.ins) {
-        let near = users(word.ins.rd, near);
-        add_twice(list, test, near, word.ins.rd, constant(word))?;
+        let known = Known {
+            near: users(word.ins.rd, near),
+            register: word.ins.rd,
+            value: constant(word),
+        };
+        add_twice(list, test, &known)?;
     }
     Ok(())
 }

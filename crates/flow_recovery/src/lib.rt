@@ -3,7 +3,6 @@
 
 mod classes;
 mod constants;
-mod even;
 mod named;
 mod reach;
 mod recovery;

@@ -34,10 +34,7 @@ pub fn add_symbols(list: &mut Vec<u64>, symbols: &[Symbol]) -> Result<(), AllocE
 fn is_code_relocation(rela: &Rela) -> bool
     ensures { result ≡ is_code_relocation rela.now }
 {
-    match rela.kind {
-        1 | 2 | 16 | 17 | 18 | 19 | 23 | 26 | 27 | 28 => true,
-        _ => false,
-    }
+    matches!(rela.kind, 1 | 2 | 16 | 17 | 18 | 19 | 23 | 26 | 27 | 28)
 }
 
 /// The value of the relocation's symbol plus its addend, modulo 2^64, where there is such a symbol.

@@ -36,6 +36,7 @@ fn add_links(list: &mut Vec<u64>, words: &[CodeWord]) -> Result<(), AllocError>
 }
 
 /// Adds the addresses that are reached, where they are code.
+#[tactic(auto, using(crate::proofs::ReachLaws::reached_found))]
 pub(crate) fn add_reached(
     list: &mut Vec<u64>,
     test: &Test,
@@ -54,6 +55,7 @@ pub(crate) fn add_reached(
 }
 
 /// These addresses.
+#[tactic(auto, using(crate::proofs::SetLaws::adds_first))]
 fn listed(alloc: Global, test: &Test, file: &ElfFile) -> Result<Vec<u64>, AllocError>
     ensures { IfOk result (λ list. (a : ℕ) → lists list.items a ≡ is_reached file.now test.now a) }
 {
@@ -66,11 +68,10 @@ fn listed(alloc: Global, test: &Test, file: &ElfFile) -> Result<Vec<u64>, AllocE
 fn marks(alloc: Global, set: &BTreeSet<u64>, words: &[CodeWord]) -> Result<Vec<bool>, AllocError>
     ensures { IfOk result (λ marks. marks.items ≡ map (λ c. has_address set.now c.at) words.now) }
 {
-    let mut marks = Vec::new(alloc);
-    for word in words {
-        marks.push(set.contains(&word.at))?;
-    }
-    Ok(marks)
+    words
+        .iter()
+        .map(|word| set.contains(&word.at))
+        .collect(alloc)
 }
 
 /// For each word of the code of a test, whether it is reached: whether a jump by register may lead to it, as far as `file`

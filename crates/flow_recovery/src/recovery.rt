@@ -12,12 +12,11 @@ ghost use Rattle.flow_recovery.specs.Words.{is_begun, is_chosen, is_entered, of_
 ghost use Rattle.flow_recovery.specs.Leaders.{AreLeaders};
 
 use crate::classes::is_indirect;
-use crate::even::add_leveled;
 use crate::named::{add_relocations, add_symbols};
 use crate::reach::add_reached;
 use crate::sets::{add, set_of};
 use crate::words::add_words;
-use elf_types::{ElfFile, Rela, Symbol};
+use elf_types::ElfFile;
 use qed_model::{CodeWord, Entries, Options, Test};
 use std::alloc::{AllocError, Global};
 use std::collections::BTreeSet;
@@ -63,19 +62,20 @@ fn of_code(alloc: Global, named: &[u64], words: &[CodeWord]) -> Result<Vec<u64>,
 
 /// The addresses at which blocks begin by the entry, by the words themselves, or by a symbol or a relocation, whether a word
 /// stands there or not.
+#[tactic(auto, using(crate::proofs::LeaderLaws::collected))]
 fn named(
     alloc: Global,
-    entry: u64,
-    words: &[CodeWord],
-    symbols: &[Symbol],
-    relas: &[Rela],
+    test: &Test,
+    file: &ElfFile,
+    options: &Options,
 ) -> Result<Vec<u64>, AllocError>
-    ensures exact { IfOk result (λ list. (a : ℕ) → lists list.items a ≡ is_begun entry words.now symbols.now relas.now a) }
-    ensures small { OnOk result (All (λ c. c.at < 2 ^ 64) words.now) }
+    ensures exact { IfOk result (λ list. (a : ℕ) → lists list.items a ≡ is_begun options.now test.now.entry test.now.code file.now.symbols file.now.relas a) }
+    ensures small { OnOk result (All (λ c. c.at < 2 ^ 64) test.now.code) }
 {
+    let (symbols, relas) = (file.symbols.as_slice(), file.relas.as_slice());
     let mut list = Vec::new(alloc);
-    add(&mut list, entry)?;
-    add_words(&mut list, words)?;
+    add(&mut list, test.entry)?;
+    add_words(&mut list, test.code.as_slice(), options)?;
     add_symbols(&mut list, symbols)?;
     add_relocations(&mut list, symbols, relas)?;
     Ok(list)
@@ -85,10 +85,7 @@ fn named(
 fn is_chosen(entries: Entries) -> bool
     ensures { result ≡ is_chosen entries }
 {
-    match entries {
-        Entries::All => false,
-        Entries::Reached => true,
-    }
+    matches!(entries, Entries::Reached)
 }
 
 /// Adds the addresses that are reached, where they alone have entries and the code has a JALR.
@@ -107,6 +104,7 @@ fn add_entered(
 }
 
 /// The addresses to which a JALR of the file that `test` is may lead, where such addresses alone have entries; else none.
+#[tactic(auto, using(crate::proofs::LeaderLaws::entered, crate::proofs::SetLaws::adds_first))]
 pub fn entered(
     alloc: Global,
     test: &Test,
@@ -141,13 +139,17 @@ pub fn leaders(
     requires { IsTestOf file.now options.now test.now }
     ensures { IfOk result (λ leaders. AreLeaders file.now options.now test.now.code leaders.items) }
 {
-    let words = test.code.as_slice();
-    let (symbols, relas) = (file.symbols.as_slice(), file.relas.as_slice());
-    let mut list = named(alloc, test.entry, words, symbols, relas)?;
+    let mut list = named(alloc, test, file, options)?;
     add_entered(&mut list, test, file, options)?;
-    add_leveled(&mut list, words, options)?;
-    let leaders = begun(alloc, list, words)?;
+    let leaders = begun(alloc, list, test.code.as_slice())?;
     Ok(leaders)
+}
+
+/// Whether some word is a JALR.
+fn any_indirect(words: &[CodeWord]) -> bool
+    ensures { result ≡ list_any (λ c. is_indirect (class_of c.ins.kind)) words.now }
+{
+    words.iter().any(|word| is_indirect(word.ins.class()))
 }
 
 /// Whether some word of the code is a JALR.
@@ -155,10 +157,5 @@ pub fn has_indirect(test: &Test) -> bool
     ensures value { result ≡ list_any (λ c. is_indirect (class_of c.ins.kind)) test.now.code }
     ensures exact { (f : ElfFile) → AreCodeWords f test.now.code → IsTrue result ↔ HasIndirect f }
 {
-    for word in test.code.as_slice() {
-        if is_indirect(word.ins.class()) {
-            return true;
-        }
-    }
-    false
+    any_indirect(test.code.as_slice())
 }

@@ -14,19 +14,7 @@ use elf_types::Segment;
 use qed_model::limits::MAX_IMAGE_SPAN;
 use qed_model::{Range, Test};
 use std::alloc::AllocError;
-
-/// The bytes from a number on, none where it is too great.
-#[tactic(auto, using(std::proofs::lemmas::List::drop_all))]
-fn rest_of(bytes: &[u8], number: u64) -> &[u8]
-    ensures { result.now ≡ drop number bytes.now }
-{
-    let skipped = number as usize;
-    if skipped < bytes.len() {
-        &bytes[skipped..]
-    } else {
-        &[]
-    }
-}
+use tests::{is_code_address, rest_of};
 
 /// How far from a base on the first address is that has the word as its low 32 bits.
 fn offset_of(base: u64, word: u64) -> u64
@@ -76,25 +64,6 @@ pub fn add_data(list: &mut Vec<u64>, base: u64, segments: &[Segment]) -> Result<
         add_segment(list, base, segment)?;
     }
     Ok(())
-}
-
-/// Whether an address is one of some range.
-fn is_in_any(ranges: &[Range], address: u64) -> bool
-    ensures { result ≡ is_in_any (map range_of ranges.now) address }
-{
-    for range in ranges {
-        if range.start <= address && address < range.end {
-            return true;
-        }
-    }
-    false
-}
-
-/// Whether an address is a code address.
-fn is_code_address(ranges: &[Range], address: u64) -> bool
-    ensures { result ≡ is_code_address (map range_of ranges.now) address }
-{
-    address % 4 == 0 && is_in_any(ranges, address)
 }
 
 /// A base and a word, sign-extended, modulo 2^64.

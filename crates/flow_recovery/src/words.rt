@@ -5,11 +5,11 @@ ghost use Rattle.rv_isa.specs.Kind.{class_of};
 ghost use Rattle.tests.specs.Admission.Leaders.{has_target, is_end};
 ghost use Rattle.machine.specs.Step.{target};
 ghost use Rattle.flow_recovery.specs.Sets.{Adds};
-ghost use Rattle.flow_recovery.specs.Words.{leads_to, ends_before, begins_by};
+ghost use Rattle.flow_recovery.specs.Words.{leads_to, ends_before, is_even, begins_by};
 
 use crate::classes::{has_target, is_end};
 use crate::sets::add;
-use qed_model::CodeWord;
+use qed_model::{CodeWord, Options};
 use rv_isa::Ins;
 use std::alloc::AllocError;
 
@@ -43,25 +43,43 @@ fn add_next(list: &mut Vec<u64>, word: &CodeWord) -> Result<(), AllocError>
     Ok(())
 }
 
-/// Adds both.
-fn add_word(list: &mut Vec<u64>, word: &CodeWord) -> Result<(), AllocError>
-    ensures adds { OnOk result (Adds list.old.items list.new.items (begins_by word.now)) }
+/// Adds the address of a word, where the form is lean and it is a multiple of so many words as a piece has at most, so that no block
+/// has more instructions than a piece.
+fn add_even(list: &mut Vec<u64>, word: &CodeWord, options: &Options) -> Result<(), AllocError>
+    ensures { OnOk result (Adds list.old.items list.new.items (is_even options.now word.now)) }
+{
+    let size = 4 * u128::from(options.inst_max);
+    if options.lean.is_some() && u128::from(word.at).is_multiple_of(size) {
+        add(list, word.at)?;
+    }
+    Ok(())
+}
+
+/// Adds all of these.
+fn add_word(list: &mut Vec<u64>, word: &CodeWord, options: &Options) -> Result<(), AllocError>
+    ensures adds { OnOk result (Adds list.old.items list.new.items (begins_by options.now word.now)) }
     ensures small { OnOk result (word.now.at < 2 ^ 64) }
 {
     // A number behind a reference is known to be below 2^64 only where it is read.
     let _at = word.at;
     add_target(list, word)?;
     add_next(list, word)?;
+    add_even(list, word, options)?;
     Ok(())
 }
 
 /// Adds what the words say.
-pub fn add_words(list: &mut Vec<u64>, words: &[CodeWord]) -> Result<(), AllocError>
-    ensures adds { OnOk result (Adds list.old.items list.new.items (λ a. list_any (λ c. begins_by c a) words.now)) }
+#[tactic(auto, using(std::proofs::lemmas::List::take_all, crate::proofs::SetLaws::adds_more))]
+pub fn add_words(
+    list: &mut Vec<u64>,
+    words: &[CodeWord],
+    options: &Options,
+) -> Result<(), AllocError>
+    ensures adds { OnOk result (Adds list.old.items list.new.items (λ a. list_any (λ c. begins_by options.now c a) words.now)) }
     ensures small { OnOk result (All (λ c. c.at < 2 ^ 64) words.now) }
 {
     for word in words {
-        add_word(list, word)?;
+        add_word(list, word, options)?;
     }
     Ok(())
 }

@@ -1,6 +1,6 @@
 -- Lines of words that are listed one after the other.
 use Rattle.std.proofs.Common.{◌≡◌, ℕ, zero, suc, ◌+◌, ◌-◌, ◌*◌, ◌<◌, max, List, [], ◌∷◌, ◌++◌, length, get_or, drop, refl, sym, ap, ◌∙◌, arith, append_assoc, add-one, drop-cons}
-use Rattle.tests.specs.declared.code_range.CodeRange.{CodeRange}
+use Rattle.tests.specs.declared.range.Span.{Span}
 use Rattle.tests.specs.Ranges.{span, spans}
 use Rattle.listing.specs.Listing.{line, lines}
 use Rattle.listing.specs.Addresses.{from_on, down, words_of, addresses}
@@ -35,18 +35,18 @@ line_step w start count number text more all lt e h =
     ∙ h
 
 -- ---- one range more
-rest_spans : (rs : List CodeRange) (i : ℕ) (d : CodeRange) → i < length rs → spans (drop i rs) ≡ span (get_or rs i d) ∷ spans (drop (i + 1) rs)
+rest_spans : (rs : List Span) (i : ℕ) (d : Span) → i < length rs → spans (drop i rs) ≡ span (get_or rs i d) ∷ spans (drop (i + 1) rs)
 rest_spans rs i d lt = let split : drop i rs ≡ get_or rs i d ∷ drop (i + 1) rs = rw add-one (drop-cons rs i d lt) in ap spans split
 
 pub range_step :
-    (w : ℕ → ℕ) (rs : List CodeRange) (i : ℕ) (d : CodeRange) (done next : ℕ) (text more all : List ℕ) → i < length rs
-    → more ≡ text ++ lines w (words_of done (span (get_or rs i d))) → next ≡ max done (down ((get_or rs i d).start + (get_or rs i d).size))
+    (w : ℕ → ℕ) (rs : List Span) (i : ℕ) (d : Span) (done next : ℕ) (text more all : List ℕ) → i < length rs
+    → more ≡ text ++ lines w (words_of done (span (get_or rs i d))) → next ≡ max done (down (get_or rs i d).end)
     → text ++ lines w (addresses done (spans (drop i rs))) ≡ all
     → more ++ lines w (addresses next (spans (drop (i + 1) rs))) ≡ all
 range_step w rs i d done next text more all lt e n h =
     let r = get_or rs i d in
     let rest = spans (drop (i + 1) rs) in
-    let later = addresses (max done (down (r.start + r.size))) rest in
+    let later = addresses (max done (down r.end)) rest in
     ap (λ m. more ++ lines w (addresses m rest)) n
     ∙ ap (λ xs. xs ++ lines w later) e
     ∙ append_assoc text (lines w (words_of done (span r))) (lines w later)

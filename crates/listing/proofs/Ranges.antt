@@ -6,7 +6,7 @@ use Rattle.std.proofs.lemmas.Bool.{and_parts, and_from, or_cases, or_left, or_ri
 use Rattle.std.proofs.lemmas.List.Elements.{All-nil, All-cons}
 use Rattle.std.proofs.lemmas.List.Sorted.{All-permutation}
 use Rattle.elf_types.specs.declared.file.Section.{Section}
-use Rattle.tests.specs.declared.code_range.CodeRange.{CodeRange}
+use Rattle.tests.specs.declared.range.Span.{Span}
 use Rattle.tests.specs.Ranges.{span, spans}
 use Rattle.machine.specs.Program.{LoadSegment}
 use Rattle.machine.specs.Loading.{is_code_section, lies_in_code, lies_in_any, section_ranges, segment_ranges, first_some, ElfFile}
@@ -64,9 +64,9 @@ some_held ls r (x ∷ xs) ys f g m = f m
 range_held : (f : ElfFile) (r : ℕ × ℕ) → Among r (ranges_of f) → is_held r (loads_of f) ≡ true
 range_held f r m = some_held (loads_of f) r (section_ranges (loads_of f) f.sections) (segment_ranges (loads_of f)) (sections_held (loads_of f) f.sections r) (segments_held (loads_of f) r) m
 
-each_held : (ls : List LoadSegment) (rs : List CodeRange) → ((r : ℕ × ℕ) → Among r (spans rs) → is_held r ls ≡ true) → All (λ r. IsHeld ls (span r)) rs
+each_held : (ls : List LoadSegment) (rs : List Span) → ((r : ℕ × ℕ) → Among r (spans rs) → is_held r ls ≡ true) → All (λ r. IsHeld ls (span r)) rs
 each_held ls [] h = All-nil (λ r. IsHeld ls (span r))
 each_held ls (r ∷ rs) h = All-cons (λ x. IsHeld ls (span x)) r rs (record { is = h (span r) (inl refl) }) (each_held ls rs (λ x m. h x (inr m)))
 
-pub all_held : (f : ElfFile) (xs ys : List CodeRange) → spans xs ≡ ranges_of f → IsPermutation xs ys → All (λ r. IsHeld (loads_of f) (span r)) ys
+pub all_held : (f : ElfFile) (xs ys : List Span) → spans xs ≡ ranges_of f → IsPermutation xs ys → All (λ r. IsHeld (loads_of f) (span r)) ys
 all_held f xs ys e moved = All-permutation (λ r. IsHeld (loads_of f) (span r)) xs ys moved (each_held (loads_of f) xs (λ r m. range_held f r (subst (Among r) e m)))

@@ -5,7 +5,7 @@ use Rattle.std.specs.List.{list_any}
 use Rattle.std.specs.List.Sorted.{IsPermutation, IsNonDecreasingBy}
 use Rattle.std.proofs.lemmas.Bool.{and_parts, and_from, or_cases, or_left, or_right, leb-true, le-leb, eqb-true, eq-eqb, false≢true, cases_lt}
 use Rattle.std.proofs.lemmas.List.Sorted.{list_any-IsPermutation}
-use Rattle.tests.specs.declared.code_range.CodeRange.{CodeRange}
+use Rattle.tests.specs.declared.range.Span.{Span}
 use Rattle.tests.specs.Ranges.{span, spans}
 use Rattle.machine.specs.Step.{in_range}
 use Rattle.tests.specs.Admission.CodeWords.{ranges_of, word_at, ElfFile}
@@ -137,22 +137,22 @@ in_listed a done low (r ∷ rs) s e f l h =
         (or_cases (in_one a r) (in_range a rs) h)
 
 -- ---- ranges that are sorted
-starts_from : (low : ℕ) (rs : List CodeRange) → ((d : CodeRange) → 0 < length rs → low ≤ (get_or rs 0 d).start) → IsNonDecreasingBy (λ r. r.start) rs → Starts low (spans rs)
+starts_from : (low : ℕ) (rs : List Span) → ((d : Span) → 0 < length rs → low ≤ (get_or rs 0 d).start) → IsNonDecreasingBy (λ r. r.start) rs → Starts low (spans rs)
 starts_from low [] l sorted = tt
 starts_from low (r ∷ rs) l sorted = (
   l r (omega arith),
   starts_from r.start rs (λ d lt. sorted 0 1 d (omega arith) (omega (arith, lt))) (λ i j d le lt. sorted (suc i) (suc j) d (omega (arith, le)) (omega (arith, lt))),
 )
 
-any_range : (a : ℕ) (rs : List CodeRange) → in_range a (spans rs) ≡ list_any (λ r. in_one a (span r)) rs
+any_range : (a : ℕ) (rs : List Span) → in_range a (spans rs) ≡ list_any (λ r. in_one a (span r)) rs
 any_range a [] = refl
 any_range a (r ∷ rs) = ap (λ b. in_one a (span r) || b) (any_range a rs)
 
-same_range : (a : ℕ) (xs ys : List CodeRange) → IsPermutation xs ys → in_range a (spans xs) ≡ in_range a (spans ys)
+same_range : (a : ℕ) (xs ys : List Span) → IsPermutation xs ys → in_range a (spans xs) ≡ in_range a (spans ys)
 same_range a xs ys moved = any_range a xs ∙ list_any-IsPermutation (λ r. in_one a (span r)) xs ys moved ∙ sym (any_range a ys)
 
 -- ---- so they are the words of the file
-module _ (f : ElfFile) (xs ys : List CodeRange) (e : spans xs ≡ ranges_of f) (moved : IsPermutation xs ys) (sorted : IsNonDecreasingBy (λ r. r.start) ys) where
+module _ (f : ElfFile) (xs ys : List Span) (e : spans xs ≡ ranges_of f) (moved : IsPermutation xs ys) (sorted : IsNonDecreasingBy (λ r. r.start) ys) where
   same : (a : ℕ) → in_range a (spans ys) ≡ in_range a (ranges_of f)
   same a = sym (same_range a xs ys moved) ∙ ap (in_range a) e
 

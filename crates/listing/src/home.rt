@@ -6,17 +6,17 @@ ghost use Rattle.tests.specs.Ranges.{span};
 ghost use Rattle.listing.specs.Homes.{holds_range, is_held, IsHeld, IsHome, segment_word};
 
 use elf_types::Segment;
-use tests::{CodeRange, word_in};
+use tests::{Span, word_in};
 
 /// Whether a range lies wholly inside a segment.
-fn holds(segment: &Segment, range: CodeRange) -> bool
+fn holds(segment: &Segment, range: Span) -> bool
     ensures { result ≡ holds_range (load_segment segment.now) (span range) }
 {
-    segment.address <= range.start && range.end() <= segment.end()
+    segment.address <= range.start && range.end <= segment.end()
 }
 
 /// The first loaded segment in which a range lies.
-fn first_home<'a>(segments: &'a [Segment], range: CodeRange) -> Option<&'a Segment>
+fn first_home<'a>(segments: &'a [Segment], range: Span) -> Option<&'a Segment>
     ensures { MatchOption result (is_held (span range) (load_segments segments.now) ≡ false) (λ s. Contains segments.now s.now × (s.now.kind ≡ 1) × (holds_range (load_segment s.now) (span range) ≡ true)) }
 {
     for segment in segments {
@@ -28,7 +28,7 @@ fn first_home<'a>(segments: &'a [Segment], range: CodeRange) -> Option<&'a Segme
 }
 
 /// The loaded segment in which a range lies.
-pub fn home<'a>(segments: &'a [Segment], range: CodeRange) -> &'a Segment
+pub fn home<'a>(segments: &'a [Segment], range: Span) -> &'a Segment
     requires fit { AllFitMemory (load_segments segments.now) }
     requires held { IsHeld (load_segments segments.now) (span range) }
     ensures { IsHome segments.now (span range) result.now }

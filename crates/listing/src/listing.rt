@@ -12,7 +12,7 @@ use crate::home::{home, segment_word};
 use crate::line::push_line;
 use elf_types::{Bytes, ElfFile, Segment};
 use std::alloc::{AllocError, Global};
-use tests::{CodeRange, code_ranges};
+use tests::{Span, code_ranges};
 
 /// Appends the lines of so many words of a segment, from an address on.
 fn push_words(
@@ -34,17 +34,17 @@ fn push_words(
 }
 
 /// The first multiple of 4 that is at least the first address of a range.
-fn first_word(range: CodeRange) -> u128
+fn first_word(range: Span) -> u128
     ensures { result ≡ up range.start }
 {
     (u128::from(range.start) + 3) / 4 * 4
 }
 
 /// The multiple of 4 at which the last whole word of a range ends, or one before the range.
-fn last_word(range: CodeRange) -> u128
-    ensures { result ≡ down (range.start + range.size) }
+fn last_word(range: Span) -> u128
+    ensures { result ≡ down range.end }
 {
-    range.end() / 4 * 4
+    range.end / 4 * 4
 }
 
 /// Appends the lines of the words of a range that are not before `done`.
@@ -52,7 +52,7 @@ fn push_range(
     alloc: Global,
     text: &mut Vec<u8>,
     segments: &[Segment],
-    range: CodeRange,
+    range: Span,
     done: u128,
 ) -> Result<(), AllocError>
     requires fit { AllFitMemory (load_segments segments.now) }
@@ -72,11 +72,7 @@ fn push_range(
 }
 
 /// The lines of the words of ranges that are sorted by their starts, each address once.
-fn lines_of(
-    alloc: Global,
-    segments: &[Segment],
-    ranges: &[CodeRange],
-) -> Result<Vec<u8>, AllocError>
+fn lines_of(alloc: Global, segments: &[Segment], ranges: &[Span]) -> Result<Vec<u8>, AllocError>
     requires fit { AllFitMemory (load_segments segments.now) }
     requires apart { AreApart (load_segments segments.now) }
     requires held { All (λ r. IsHeld (load_segments segments.now) (span r)) ranges.now }

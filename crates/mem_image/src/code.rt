@@ -25,6 +25,7 @@ impl Model for Code {
 }
 
 /// The bytes of the page of this number, where they may be executed and not written.
+#[tactic(auto, using(crate::proofs::SegmentLaws::stands_at, crate::proofs::WholeLaws::among_stands))]
 pub fn code_of(pages: &[Held], at: usize) -> Result<Option<Code>, AllocError>
     requires sound { AreSound pages.now }
     requires below { at < length pages.now }

@@ -230,6 +230,7 @@ impl Held {
 
     /// The same, where the page may have other owners.
     #[inline(never)]
+    #[tactic(auto, using(crate::proofs::WholeLaws::spans, crate::proofs::PageLaws::put_with, crate::proofs::PageLaws::put_in, crate::proofs::WholeLaws::like_put))]
     fn put_shared(&mut self, address: u64, width: u64, value: u64) -> Result<(), AllocError>
         requires has { has_all self.old address width ≡ true }
         requires small { width ≤ 8 }

@@ -133,6 +133,7 @@ impl Image {
 
     /// The bytes of the page of an address, where they may be executed and not written, so that a `write` leaves them as they
     /// are; or None where the address has no such byte.
+    #[tactic(auto, using(crate::proofs::FixedLaws::none_no_code, crate::proofs::FixedLaws::first_no_code, crate::proofs::FixedLaws::if_none))]
     pub fn code(&self, address: u64) -> Result<Option<Code>, AllocError>
         ensures fixed { IfOk result (λ found. IfSome found (IsFixed self.now)) }
         ensures some { IfOk result (λ found. IfSome found (λ code. has code address ≡ true)) }
@@ -201,6 +202,7 @@ impl Image {
     }
 
     /// The byte at an address, where it has the permission.
+    #[tactic(auto, using(crate::proofs::NumberLaws::allowed_held))]
     fn byte(&self, access: Access, address: u64) -> Option<u8>
         ensures byte { result ≡ allowed_byte (needs access) self.now address }
         ensures small { IfSome result (λ b. b < 256) }
@@ -262,6 +264,7 @@ impl Image {
 
     /// The same, each byte sought for itself.
     #[inline(never)]
+    #[tactic(auto, using(crate::proofs::NumberLaws::taken_none, crate::proofs::NumberLaws::taken_more, crate::proofs::NumberLaws::taken_fits, crate::proofs::NumberLaws::taken_all, crate::proofs::NumberLaws::taken_refused))]
     fn number_apart(&self, access: Access, address: u64, width: u64) -> Option<u64>
         requires { width ≤ 8 }
         ensures number { result ≡ allowed_number (needs access) self.now address width }

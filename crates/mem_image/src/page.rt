@@ -26,6 +26,7 @@ impl Clone for Page {
 
 impl Page {
     /// A page that holds the first bytes of a slice, and zeros behind them.
+    #[tactic(auto, using(crate::proofs::PageLaws::filled_none, crate::proofs::PageLaws::filled_more, crate::proofs::PageLaws::filled_all))]
     pub fn of(bytes: &[u8]) -> Page
         ensures { HoldsFrom bytes.now 0 result.bytes }
     {
@@ -69,6 +70,7 @@ impl Page {
 
     /// The same, of any width, from the lowest byte on, which LLVM makes one load of.
     #[inline(always)]
+    #[tactic(auto, using(crate::proofs::WholeLaws::gathered_none, crate::proofs::WholeLaws::gathered_fits, crate::proofs::WholeLaws::gathered_more))]
     fn gather(&self, at: usize, width: u64) -> u64
         requires within { at + width ≤ PAGE }
         requires small { width ≤ 8 }

@@ -81,6 +81,7 @@ impl Pages {
     }
 
     /// Sets the low bytes of a value at those of at most 8 addresses that are mapped.
+    #[tactic(auto, using(std::proofs::lemmas::List::with_items_is, machine::proofs::Lemmas::put_none, crate::proofs::SegmentLaws::none_past))]
     pub fn put(&mut self, address: u64, width: u64, value: u64) -> Result<(), AllocError>
         requires { width ≤ 8 }
         ensures put { IfOk result (λ _. memory_of self.new ≡ put (memory_of self.old) address width value) }

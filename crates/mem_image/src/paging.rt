@@ -13,6 +13,7 @@ use std::alloc::{AllocError, Global};
 use std::rc::Rc;
 
 /// The segments that have bytes in memory, each by its address and its number, in the order of their addresses.
+#[tactic(auto, using(crate::proofs::OverlapLaws::seen_there, crate::proofs::PagingLaws::orders_none, crate::proofs::PagingLaws::orders_passed, crate::proofs::PagingLaws::orders_more, crate::proofs::PagingLaws::orders_moved))]
 fn in_order(alloc: Global, specs: &[SegmentSpec]) -> Result<Vec<(u64, usize)>, AllocError>
     ensures all { IfOk result (λ order. Orders (segments_of specs.now) order.items (length specs.now)) }
     ensures ascends { IfOk result (λ order. IsNonDecreasingBy (λ p. p.0) order.items) }

@@ -8,6 +8,7 @@ ghost use Rattle.mem_image.specs.Segments.{IsFirst, IsWholeAt};
 use crate::held::Held;
 
 /// How many of the pages begin at the address or before it.
+#[tactic(auto, using(crate::proofs::SegmentLaws::stands_at, crate::proofs::PlaceLaws::no_later))]
 fn begun(pages: &[Held], address: u64) -> usize
     requires { Ascends 0 pages.now }
     ensures most { result ≤ length pages.now }
@@ -29,6 +30,7 @@ fn begun(pages: &[Held], address: u64) -> usize
 
 /// The page that has the address.
 #[inline(never)]
+#[tactic(auto, using(crate::proofs::SegmentLaws::stands_at, crate::proofs::PlaceLaws::first_near, crate::proofs::PlaceLaws::none_begun, crate::proofs::PlaceLaws::none_near))]
 fn first_with(pages: &[Held], address: u64) -> Option<usize>
     requires { AreSound pages.now }
     ensures none { IfNone result (cell_among pages.now address ≡ None) }
@@ -43,6 +45,7 @@ fn first_with(pages: &[Held], address: u64) -> Option<usize>
 }
 
 /// The page that has the address. It may be number `near`.
+#[tactic(auto, using(crate::proofs::SegmentLaws::stands_at, crate::proofs::PlaceLaws::first_near))]
 pub fn place(pages: &[Held], near: usize, address: u64) -> Option<usize>
     requires { AreSound pages.now }
     ensures none { IfNone result (cell_among pages.now address ≡ None) }

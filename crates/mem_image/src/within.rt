@@ -11,6 +11,7 @@ use std::alloc::AllocError;
 
 /// The number of 1 to 8 bytes, which the page of this number has, or None where they have not the permission.
 #[inline(always)]
+#[tactic(auto, using(crate::proofs::WholeLaws::here_whole, crate::proofs::WholeLaws::whole_granted, crate::proofs::WholeLaws::whole_refused, crate::proofs::WholeLaws::whole_number, crate::proofs::WholeLaws::refused_number, crate::proofs::WholeLaws::granted_number))]
 pub fn number_within(
     pages: &[Held],
     at: usize,
@@ -35,6 +36,7 @@ pub fn number_within(
 
 /// The same, where page number `near` has eight bytes from the address on, with the permission. None tells nothing.
 #[inline(always)]
+#[tactic(auto, using(crate::proofs::SegmentLaws::stands_at, crate::proofs::WholeLaws::has_fewer, crate::proofs::WholeLaws::whole_granted, crate::proofs::WholeLaws::whole_number, crate::proofs::WholeLaws::granted_number))]
 pub fn number_near(
     pages: &[Held],
     near: usize,
@@ -80,6 +82,7 @@ pub fn put_near(pages: &mut [Held], near: usize, address: u64, width: u64, value
 /// Sets the low bytes of a value at at most 8 addresses, which the page of this number has. Where it may not be written, nothing
 /// changes, and the answer is false.
 #[inline(always)]
+#[tactic(auto, using(crate::proofs::WholeLaws::here_at, crate::proofs::WholeLaws::whole_granted, crate::proofs::WholeLaws::whole_refused, crate::proofs::WholeLaws::whole_put, crate::proofs::WholeLaws::sound_like, crate::proofs::WholeLaws::set_none, crate::proofs::WholeLaws::any_err))]
 pub fn put_within(
     pages: &mut [Held],
     at: usize,

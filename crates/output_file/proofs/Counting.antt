@@ -10,11 +10,10 @@ use Rattle.tests.specs.Admission.DataRanges.{range_of, data_ranges, word_count, 
 use Rattle.tests.specs.Admission.Places.{image_of}
 use Rattle.qed_model.specs.Weave.Pieces.{divided}
 use Rattle.qed_model.specs.Weave.OutputFile.{rows_of_pieces}
-use Rattle.tests.proofs.Lemmas.{Spaced, spaced_data, image_room}
+use Rattle.tests.proofs.Lemmas.{Spaced, are_spaced, spaced_data, image_room}
 use Rattle.block_split.specs.declared.block.CodeBlock.{CodeBlock}
-use Rattle.output_file.specs.Images.{AreSpaced}
+use Rattle.tests.specs.Ranges.{AreSpaced}
 use Rattle.output_file.specs.Told.{IsWhole, rows_of, end_of}
-use Rattle.output_file.proofs.Images.{spaced_ranges}
 
 sum-cons : (n : ℕ) (ns : List ℕ) → sum (n ∷ ns) ≡ n + sum ns
 sum-cons n ns = sum_by-cons (λ x. x) n ns
@@ -45,8 +44,8 @@ pub whole_rows : (b : CodeBlock) → IsWhole b → rows_of b.start b.start b.len
 whole_rows b w = rows_are b.start b.start b.lengths b.body (omega (arith, w.whole))
 
 -- the data ranges of a test
-pub test_spaced : (f : ElfFile) (rs : List Range) → map range_of rs ≡ data_ranges (image_of f) → AreSpaced rs
-test_spaced f rs e = spaced_ranges 0 rs (subst (Spaced 0) (sym e) (spaced_data (image_of f) (image_room f.segments)))
+pub test_spaced : (f : ElfFile) (rs : List Range) → map range_of rs ≡ data_ranges (image_of f) → AreSpaced range_of rs
+test_spaced f rs e = are_spaced range_of 0 rs (subst (Spaced 0) (sym e) (spaced_data (image_of f) (image_room f.segments)))
 
 -- ---- data words
 -- the words of the ranges before number i, which are no more than stand before the end of the last of them
@@ -59,7 +58,7 @@ pub counted_none : (rs : List Range) → Counted rs 0 0
 counted_none rs = record { total = omega arith; few = λ k d e. absurd (omega (arith, e)); none = λ e. refl }
 
 pub counted_more :
-    (rs : List Range) → AreSpaced rs → (i count x next : ℕ) (d : Range) → i < length rs → x ≡ ((get_or rs i d).end - (get_or rs i d).start) / 8
+    (rs : List Range) → AreSpaced range_of rs → (i count x next : ℕ) (d : Range) → i < length rs → x ≡ ((get_or rs i d).end - (get_or rs i d).start) / 8
     → (get_or rs i d).end < 2 ^ 64 → (count + x < 2 ^ 64 → next ≡ count + x) → Counted rs i count → Counted rs (i + 1) next
 counted_more rs spaced i count x next d lt x_is fits next_is c = record {
   total = total;

@@ -2,16 +2,14 @@
 use Rattle.std.proofs.Common.{◌≡◌, ◌⊎◌, inl, inr, ⊎_elim, ℕ, zero, suc, ◌+◌, ◌<◌, ◌≤◌, Bool, true, false, cond, List, [], ◌∷◌, length, get_or, take, drop, Some, None, refl, sym, ap, ◌∙◌, subst, ◌-◌, length-drop, arith}
 use Rattle.std.specs.Prelude.{nat_lt, nat_le, ◌==◌, map, filter, AllPairs}
 use Rattle.std.specs.List.Sorted.{IsNonDecreasingBy, IsPartitionPoint}
-use Rattle.std.proofs.lemmas.Bool.{leb-true, leb-false, ltb-true, ltb-false, le-leb, lt-ltb, eq-eqb, eqb-true, and_from, cases_lt, false≢true}
+use Rattle.std.proofs.lemmas.Bool.{ltb-true, ltb-false, le-leb, eq-eqb, eqb-true, and_from, cases_lt}
 use Rattle.std.proofs.lemmas.Bool.Decides.{nat_tests}
 use Rattle.std.proofs.Math.Seq.{take-length}
-use Rattle.std.proofs.lemmas.List.Recursion.{or_is}
 use Rattle.std.proofs.lemmas.List.{get_or-drop, get_or_default}
 use Rattle.qed_model.specs.declared.plan.EntryRow.{EntryRow}
 use Rattle.tests.specs.declared.range.Range.{Range}
-use Rattle.tests.specs.Admission.DataRanges.{range_of, is_in, is_in_any, Segment}
+use Rattle.tests.specs.Admission.DataRanges.{range_of, is_in, Segment}
 use Rattle.qed_model.specs.Weave.Placed.{entry_at}
-use Rattle.output_file.specs.Images.{AreSpaced}
 
 -- ---- filters
 -- what fails at the front is left out
@@ -92,47 +90,6 @@ module _ (rows : List EntryRow) (ascend : AllPairs (λ r t. r.input < t.input) r
 -- ---- ranges
 out_of : (r : Range) (q : ℕ) → (r.end ≤ q) ⊎ (q < r.start) → is_in (range_of r) q ≡ false
 out_of r q h = ⊎_elim (λ x. grind (arith, nat_tests)) (λ x. grind (arith, nat_tests)) h
-
-module _ (rs : List Range) (spaced : AreSpaced rs) where
-  pub ends_ascend : IsNonDecreasingBy (λ r. r.end) rs
-  ends_ascend i j d le lt =
-      ⊎_elim
-      (λ x. let p = spaced.gaps i j d x lt in let s = spaced.some j d lt in omega (arith, p, s))
-      (λ x. let e : i ≡ j = omega (arith, x, le) in let s : (get_or rs i d).end ≡ (get_or rs j d).end = ap (λ k. (get_or rs k d).end) e in omega (arith, s))
-      (cases_lt i j)
-
-  module _ (q place : ℕ) (point : IsPartitionPoint (λ r. nat_le r.end q ≡ true) (λ r. nat_le r.end q ≡ false) rs place) where
-    ended : (k : ℕ) (d : Range) → k < place → is_in (range_of (get_or rs k d)) q ≡ false
-    ended k d lt = out_of (get_or rs k d) q (inl (leb-true (get_or rs k d).end q (point.0 k d (omega arith) lt)))
-
-    pub in_past : length rs ≤ place → false ≡ is_in_any (map range_of rs) q
-    in_past le = or_is (λ ts. is_in_any (map range_of ts) q) (λ t. is_in (range_of t) q) refl (λ t ts. refl) rs (record { start = 0; end = 0 }) false (λ e. absurd (false≢true e)) (λ e k lt. ended k _ (omega (arith, le, lt)))
-
-    -- the range at the place is the one, if any is
-    pub in_here : (d : Range) → place < length rs → nat_le (get_or rs place d).start q ≡ is_in_any (map range_of rs) q
-    in_here d lt =
-        or_is (λ ts. is_in_any (map range_of ts) q) (λ t. is_in (range_of t) q) refl (λ t ts. refl) rs d (nat_le (get_or rs place d).start q)
-        (λ e. (place, lt, and_from (nat_le (get_or rs place d).start q) (nat_lt q (get_or rs place d).end) e (lt-ltb q (get_or rs place d).end end)))
-        (λ e k l. none (leb-false (get_or rs place d).start q e) k d l) where
-          end : q < (get_or rs place d).end
-          end = leb-false (get_or rs place d).end q (point.1 place d (omega arith) lt)
-
-          none : q < (get_or rs place d).start → (k : ℕ) (e : Range) → k < length rs → is_in (range_of (get_or rs k e)) q ≡ false
-          none h k e l =
-              ⊎_elim
-              (λ x. ended k e x)
-              (λ x. ⊎_elim
-              (λ y.
-              let gap = spaced.gaps place k d y l in
-              let some = spaced.some place d lt in
-              let same : (get_or rs k e).start ≡ (get_or rs k d).start = ap (λ t. t.start) (get_or_default rs k e d l) in
-              out_of (get_or rs k e) q (inr (omega (arith, gap, some, same, h))))
-              (λ y.
-              let p : place ≡ k = omega (arith, x, y) in
-              let same : (get_or rs place d).start ≡ (get_or rs k e).start = ap (λ t. t.start) (get_or_default rs place d e lt) ∙ ap (λ n. (get_or rs n e).start) p in
-              out_of (get_or rs k e) q (inr (omega (arith, same, h))))
-              (cases_lt place k))
-              (cases_lt k place)
 
 -- ---- segments that begin in a range
 module _ {A : Type 0} (f : A → Segment) (xs : List A) (r : Range) (from : ℕ) (first : IsPartitionPoint (λ x. nat_lt (f x).address r.start ≡ true) (λ x. nat_lt (f x).address r.start ≡ false) xs from) where

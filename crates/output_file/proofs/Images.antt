@@ -1,5 +1,5 @@
 -- The image of a test: its segments share no address, and which of them lie in a data range.
-use Rattle.std.proofs.Common.{◌≡◌, ⊎_elim, ℕ, suc, ◌+◌, ◌<◌, ◌≤◌, Bool, true, false, cond, ◌&&◌, List, [], ◌∷◌, length, map, refl, sym, ◌∙◌, subst, arith}
+use Rattle.std.proofs.Common.{◌≡◌, ⊎_elim, ℕ, suc, ◌+◌, ◌<◌, ◌≤◌, Bool, true, false, cond, ◌&&◌, List, [], ◌∷◌, length, refl, sym, ◌∙◌, subst, arith}
 use Rattle.std.specs.Prelude.{nat_lt}
 use Rattle.std.proofs.lemmas.Bool.{false_from_ne_true}
 use Rattle.std.proofs.lemmas.Bool.Decides.{nat_tests}
@@ -11,11 +11,12 @@ use Rattle.machine.specs.Loading.{load_segment, load_segments, Segment}
 use Rattle.tests.specs.Admission.Terms.{image_segments}
 use Rattle.tests.specs.Admission.DataRanges.{range_of, is_data, data_ranges, is_in, is_in_any}
 use Rattle.tests.specs.Admission.Rules.{is_mixed}
-use Rattle.machine.proofs.Lemmas.{among-map, any_passing, none_passing, place_of, fit_among, every_all, pairs_all, every_among, among_every}
+use Rattle.machine.proofs.Lemmas.{any_passing, none_passing, place_of, fit_among, every_among, among_every}
 use Rattle.machine.specs.Members.{Among, Pairs}
-use Rattle.tests.proofs.Lemmas.{none_passes, AllRoom, Spaced, spaced_data, spaced_from, in_from, among_load, image_parts, image_room}
+use Rattle.tests.proofs.Lemmas.{none_passes, AllRoom, Spaced, are_spaced, spaced_data, in_from, among_load, image_parts, image_room}
 use Rattle.qed_model.proofs.Lemmas.{data_inside, not_mixed}
-use Rattle.output_file.specs.Images.{AreSpaced, IsImage}
+use Rattle.tests.specs.Ranges.{AreSpaced}
+use Rattle.output_file.specs.Images.{IsImage}
 
 -- ---- segments apart
 -- no address is in both
@@ -59,14 +60,6 @@ pairs_alone (u ∷ ss) p s t q m k a b c d =
     k)
     m
 
--- ---- ranges with gaps
-gap_pairs : (low : ℕ) (rs : List Range) → Spaced low (map range_of rs) → Pairs (λ (r t : Range). r.end < t.start) rs
-gap_pairs low [] s = tt
-gap_pairs low (r ∷ rs) s = (among_every (λ (t : Range). r.end < t.start) rs (λ t m. let h = (spaced_from (r.end + 1) (map range_of rs) (range_of t) s.2 (among-map range_of t rs m)).0 in omega (arith, h)), gap_pairs (r.end + 1) rs s.2)
-
-pub spaced_ranges : (low : ℕ) (rs : List Range) → Spaced low (map range_of rs) → AreSpaced rs
-spaced_ranges low rs s = record { some = every_all (λ (r : Range). r.start < r.end) rs (among_every (λ (r : Range). r.start < r.end) rs (λ r m. (spaced_from low (map range_of rs) (range_of r) s (among-map range_of r rs m)).1)); gaps = pairs_all (λ (r t : Range). r.end < t.start) rs (gap_pairs low rs s) }
-
 module _ (image : List Segment) (ranges : List Range) (is : IsImage image ranges) where
   pub parts : (s : Segment) → Among s image → Among s is.segments × (s.kind ≡ 1) × (0 < s.memory)
   parts s m = image_parts s is.segments (subst (λ ss. Among s ss) is.image_is m)
@@ -92,8 +85,8 @@ module _ (image : List Segment) (ranges : List Range) (is : IsImage image ranges
   pub spaced : Spaced 0 (data_ranges image)
   spaced = spaced_data image room
 
-  pub are_spaced : AreSpaced ranges
-  are_spaced = spaced_ranges 0 ranges (subst (Spaced 0) (sym is.spans) spaced)
+  pub ranges_spaced : AreSpaced range_of ranges
+  ranges_spaced = are_spaced range_of 0 ranges (subst (Spaced 0) (sym is.spans) spaced)
 
   -- the data segments are those that begin in a range
   pub data_at : (s : Segment) → Among s image → is_in_any (data_ranges image) s.address ≡ is_data image s

@@ -1,16 +1,11 @@
 -- What is known of the image of a test.
-use Rattle.std.specs.Prelude.{◌≡◌, ℕ, ◌+◌, ◌^◌, ◌<◌, ◌≤◌, false, All, AllPairs, List, map, slice_get}
+use Rattle.std.specs.Prelude.{◌≡◌, ℕ, ◌+◌, ◌^◌, ◌<◌, ◌≤◌, false, All, List, map, slice_get}
 use Rattle.tests.specs.declared.range.Range.{Range}
 use Rattle.machine.specs.Apart.{AllFitMemory, AreApart}
 use Rattle.machine.specs.Loading.{load_segments, Segment}
 use Rattle.tests.specs.Admission.DataRanges.{range_of, data_ranges}
 use Rattle.tests.specs.Admission.Rules.{passes_at, is_mixed}
 use Rattle.tests.specs.Admission.Terms.{image_segments}
-
--- ranges ascend, each has some address, and there is a gap between any two
-pub record AreSpaced (ranges : List Range) : Type 0 where
-  pub some : All (λ r. r.start < r.end) ranges
-  pub gaps : AllPairs (λ r t. r.end < t.start) ranges
 
 -- the image of a file whose segments fit into memory and share no byte, where none is data in part; and its data ranges
 pub record IsImage (image : List Segment) (ranges : List Range) : Type 0 where

@@ -3,7 +3,8 @@ ghost use Rattle.std.specs.Prelude.{◌≡◌, not, IfOk, map, filter};
 ghost use Rattle.tests.specs.Admission.DataRanges.{range_of, is_in_any as is_in_any_of};
 ghost use Rattle.qed_model.specs.Weave.OutputParts.{copies};
 ghost use Rattle.qed_model.specs.Weave.OutputFile.{original_half as original_half_of, shifted as shifted_of, halves as halves_of};
-ghost use Rattle.output_file.specs.Images.{AreSpaced, IsImage, HasRoom, EndLow};
+ghost use Rattle.tests.specs.Ranges.{AreSpaced};
+ghost use Rattle.output_file.specs.Images.{IsImage, HasRoom, EndLow};
 
 use crate::ranges::{by_address, push_ranges};
 use crate::segments::{copied, shifted};
@@ -13,7 +14,7 @@ use std::alloc::{AllocError, Global};
 
 /// Whether an address lies in one of ranges, which ascend.
 fn is_in_any(ranges: &[Range], address: u64) -> bool
-    ensures { AreSpaced ranges.now → result ≡ is_in_any_of (map range_of ranges.now) address }
+    ensures { AreSpaced range_of ranges.now → result ≡ is_in_any_of (map range_of ranges.now) address }
 {
     let place = ranges.partition_point(|range| range.end <= address);
     place < ranges.len() && ranges[place].start <= address
@@ -21,7 +22,7 @@ fn is_in_any(ranges: &[Range], address: u64) -> bool
 
 /// The segments that lie in no data range, not executed.
 fn others(alloc: Global, segments: &[Segment], ranges: &[Range]) -> Result<Vec<Segment>, AllocError>
-    ensures { IfOk result (λ out. AreSpaced ranges.now → out.items ≡ copies 0 (filter (λ s. not (is_in_any_of (map range_of ranges.now) s.address)) segments.now)) }
+    ensures { IfOk result (λ out. AreSpaced range_of ranges.now → out.items ≡ copies 0 (filter (λ s. not (is_in_any_of (map range_of ranges.now) s.address)) segments.now)) }
 {
     let mut out = Vec::new(alloc);
     for segment in segments {

@@ -15,11 +15,7 @@ use std::alloc::{AllocError, Global};
 fn all_of(alloc: Global, segments: &[Segment]) -> Result<Vec<&Segment>, AllocError>
     ensures { IfOk result (λ all. map (λ s. s.now) all.items ≡ segments.now) }
 {
-    let mut all = Vec::new(alloc);
-    for segment in segments {
-        all.push(segment)?;
-    }
-    Ok(all)
+    segments.iter().collect(alloc)
 }
 
 /// The segments in ascending order of their addresses.
@@ -61,6 +57,7 @@ fn laid_bytes(alloc: Global, start: u64, held: &[&Segment]) -> Result<Vec<u8>, A
 }
 
 /// The same. A segment that stands alone shares its bytes.
+#[tactic(auto, using(crate::proofs::Alone::alone_in, crate::proofs::Alone::bytes_alone))]
 fn range_bytes(alloc: Global, start: u64, held: &[&Segment]) -> Result<Bytes, AllocError>
     ensures { IfOk result (λ bytes. bytes ≡ run_bytes start (map (λ s. s.now) held.now)) }
 {

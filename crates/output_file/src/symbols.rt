@@ -19,6 +19,7 @@ fn is_kept(symbol: &Symbol) -> bool
 }
 
 /// The bytes that the symbols of an output take in its file, with their names, where the input has these symbols.
+#[tactic(auto, using(crate::proofs::Rooms::out_room))]
 pub fn symbols_size(symbols: &[Symbol]) -> u128
     ensures { (rows : List EntryRow) → result ≡ symbols_room (out_symbols rows symbols.now) }
 {
@@ -47,6 +48,7 @@ fn is_in_group(local: bool, symbol: &Symbol) -> bool
 
 /// The new address of an input address that has an entry. The row behind the one that was found last is looked at first,
 /// since symbols often stand in the order of their addresses. Nothing rests on it.
+#[tactic(auto, using(crate::proofs::Finding::rows_ascend, crate::proofs::Finding::entry_near, crate::proofs::Finding::entry_here, crate::proofs::Finding::entry_past, crate::proofs::Finding::entry_other))]
 fn entry_at(entries: &[EntryRow], next: &mut usize, address: u64) -> Option<u64>
     ensures { EntriesAscend entries.now → result ≡ entry_at_of entries.now address }
 {

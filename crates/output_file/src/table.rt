@@ -84,6 +84,7 @@ fn table_words(
 
 /// The bytes of the table: a word for each 4 bytes of the input from the first entry to the last, and one word of 0 where
 /// there is no entry.
+#[tactic(auto, using(crate::proofs::Tables::laid_is_table, crate::proofs::Tables::no_entries))]
 fn table_bytes(alloc: Global, entries: &[EntryRow], distance: u64) -> Result<Vec<u8>, AllocError>
     ensures { IfOk result (λ bytes. (high : ℕ) → AreEntries high entries.now → bytes.items ≡ table_bytes_of distance entries.now) }
 {

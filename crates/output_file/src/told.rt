@@ -6,7 +6,7 @@ ghost use Rattle.tests.specs.Admission.DataRanges.{range_of, word_count as word_
 ghost use Rattle.qed_model.specs.Weave.OutputFile.{rows_of_pieces, piece_rows as piece_rows_of};
 ghost use Rattle.qed_model.specs.Weave.Woven.{NewCode, IsToldOf};
 ghost use Rattle.block_split.specs.Listed.{block_of};
-ghost use Rattle.output_file.specs.Images.{AreSpaced};
+ghost use Rattle.tests.specs.Ranges.{AreSpaced};
 ghost use Rattle.output_file.specs.Told.{IsWhole, AreParts};
 
 use block_split::CodeBlock;
@@ -23,8 +23,9 @@ fn words_in(range: Range) -> u64
 }
 
 /// How many data words there are in ranges.
+#[tactic(auto, using(crate::proofs::Counting::counted_none, crate::proofs::Counting::counted_more, crate::proofs::Counting::counted_all))]
 pub fn word_count(ranges: &[Range]) -> u64
-    ensures { AreSpaced ranges.now → result ≡ word_count_of (map range_of ranges.now) }
+    ensures { AreSpaced range_of ranges.now → result ≡ word_count_of (map range_of ranges.now) }
 {
     let mut count: u64 = 0;
     for range in ranges {
@@ -68,6 +69,7 @@ fn piece_rows(alloc: Global, blocks: &[CodeBlock]) -> Result<Vec<PieceRow>, Allo
 }
 
 /// What is told of the output of a test with these blocks, entries and bounds, whose new code has `code_bytes` bytes.
+#[tactic(auto, using(crate::proofs::Counting::test_spaced))]
 pub fn plan(
     alloc: Global,
     test: &Test,

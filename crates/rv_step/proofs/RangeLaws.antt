@@ -9,7 +9,7 @@ use Rattle.std.proofs.lemmas.List.Sorted.{list_any-IsPermutation}
 use Rattle.std.proofs.lemmas.Bool.{cases_lt, false≢true}
 use Rattle.std.proofs.lemmas.Bool.Decides.{nat_tests}
 use Rattle.machine.specs.Step.{in_range}
-use Rattle.tests.specs.declared.code_range.CodeRange.{CodeRange}
+use Rattle.tests.specs.declared.range.Span.{Span}
 use Rattle.tests.specs.Ranges.{span, spans}
 use Rattle.rv_step.specs.Reached.{spans_word, AreRising, BeginBy, IsAmong, IsFarthest}
 
@@ -17,12 +17,12 @@ any_has : (a : ℕ) (rs : List (ℕ × ℕ)) → in_range a rs ≡ list_any (spa
 any_has a [] = refl
 any_has a (r ∷ rs) = ap (λ t. spans_word a r || t) (any_has a rs)
 
-any_span : (a : ℕ) (cs : List CodeRange) → in_range a (spans cs) ≡ list_any (λ c. spans_word a (span c)) cs
+any_span : (a : ℕ) (cs : List Span) → in_range a (spans cs) ≡ list_any (λ c. spans_word a (span c)) cs
 any_span a [] = refl
 any_span a (c ∷ cs) = ap (λ t. spans_word a (span c) || t) (any_span a cs)
 
 -- the order does not matter
-pub permuted : (a : ℕ) (xs ys : List CodeRange) → IsPermutation xs ys → in_range a (spans ys) ≡ in_range a (spans xs)
+pub permuted : (a : ℕ) (xs ys : List Span) → IsPermutation xs ys → in_range a (spans ys) ≡ in_range a (spans xs)
 permuted a xs ys p = any_span a ys ∙ sym (list_any-IsPermutation (λ c. spans_word a (span c)) xs ys p) ∙ sym (any_span a xs)
 
 pub none_has : (a : ℕ) (rs : List (ℕ × ℕ)) → All (λ r. spans_word a r ≡ false) rs → in_range a rs ≡ false
@@ -63,10 +63,10 @@ pushed a rs s e f begin far =
     ∙ same_behind (in_range a rs) (spans_word a (s, f) || false) (spans_word a (s, e)) (only_word a rs s e f begin far)
 
 -- ---- one range more of those that stand in order
-pub one_more : (a : ℕ) (cs : List CodeRange) (i : ℕ) (d : CodeRange) → i < length cs → in_range a (spans (take (i + 1) cs)) ≡ (in_range a (spans (take i cs)) || spans_word a (span (get_or cs i d)))
+pub one_more : (a : ℕ) (cs : List Span) (i : ℕ) (d : Span) → i < length cs → in_range a (spans (take (i + 1) cs)) ≡ (in_range a (spans (take i cs)) || spans_word a (span (get_or cs i d)))
 one_more a cs i d h = any_span a (take (i + 1) cs) ∙ list_any_more (λ x. spans_word a (span x)) cs i d h ∙ ap (λ t. t || spans_word a (span (get_or cs i d))) (sym (any_span a (take i cs)))
 
-pub begin_on : (cs : List CodeRange) (i j : ℕ) (d e : CodeRange) (x : ℕ) → IsNonDecreasingBy (λ c. c.start) cs → i ≤ j → j < length cs → x ≤ (get_or cs i d).start → x ≤ (get_or cs j e).start
+pub begin_on : (cs : List Span) (i j : ℕ) (d e : Span) (x : ℕ) → IsNonDecreasingBy (λ c. c.start) cs → i ≤ j → j < length cs → x ≤ (get_or cs i d).start → x ≤ (get_or cs j e).start
 begin_on cs i j d e x up le l h =
     let more = up i j e le l in
     let here : (get_or cs i d).start ≡ (get_or cs i e).start = ap (λ c. c.start) (get_or_default cs i d e (omega (arith, le, l))) in

@@ -68,6 +68,7 @@ impl Hart {
 
     /// One step in a memory, as far as the hart goes on, and how it stands then (RISC-V unprivileged manual, RV64I and the M
     /// extension). A step that ends, fires or traps changes nothing but the outcome, and is counted.
+    #[tactic(auto, using(crate::proofs::Running::stays, crate::proofs::Running::made_none, crate::proofs::Running::step_made, crate::proofs::Running::made_counted, crate::proofs::Running::one_run, crate::proofs::WindowLaws::step_acts))]
     pub fn step(&mut self, image: &mut Image) -> Result<Outcome, AllocError>
         ensures step { IfOk result (λ _. with_memory self.new image.new ≡ advanced (with_memory self.old image.old)) }
         ensures outcome { IfOk result (λ o. o ≡ self.new.outcome) }
@@ -164,6 +165,7 @@ impl Hart {
 
     /// The same, with what each step has its instruction from. All steps are made here, so that LLVM makes one loop of them.
     #[inline(always)]
+    #[tactic(auto, using(crate::proofs::Running::none_left, crate::proofs::Running::step_left))]
     fn run_by<S: Source>(
         &mut self,
         image: &mut Image,
@@ -267,6 +269,7 @@ impl Hart {
 
     /// The same, with a new window where `more` steps may follow.
     #[inline(never)]
+    #[tactic(auto, using(crate::proofs::Fetching::fetched_grain))]
     fn look(&mut self, image: &mut Image, window: &mut Window, more: bool) -> Option<u32>
         ensures word { result ≡ state_word (with_memory self.new image.new).state self.new.pc }
         ensures same { self.new ≡ self.old }

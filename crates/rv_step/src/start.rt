@@ -10,7 +10,7 @@ ghost use Rattle.machine.specs.Apart.{AllFitMemory, AreApart};
 use crate::hart::Hart;
 use crate::system::Machine;
 use elf_types::{ElfFile, Segment};
-use mem_image::{Image, ImageError, SegmentSpec};
+use mem_image::{Image, SegmentSpec};
 use std::alloc::{AllocError, Global};
 
 /// Appends the segments of type PT_LOAD to what an image is made from.
@@ -52,8 +52,8 @@ impl Machine {
         let specs = specs(alloc, file.segments.as_slice())?;
         let image = match Image::make(alloc, &specs) {
             Ok(image) => image,
-            Err(ImageError::Memory) => return Err(AllocError),
-            Err(ImageError::Overlap(_, _)) => unreachable!(),
+            // No two segments share a byte, so that is all that can be wrong.
+            Err(_) => return Err(AllocError),
         };
         Ok(Machine {
             hart: Hart::start(alloc, file, regs)?,

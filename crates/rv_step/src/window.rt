@@ -54,6 +54,7 @@ impl Window {
 
     /// The word at an address, where it is one of those.
     #[inline(always)]
+    #[tactic(auto, using(crate::proofs::WindowLaws::window_word, crate::proofs::WindowLaws::window_fixed))]
     pub fn word(&self, address: u64) -> Option<u32>
         requires { HasWords self.now }
         ensures word { IfSome result (λ word. (s : State) → IsWindow s self.now → address ≡ s.pc → state_word s address ≡ Some word) }

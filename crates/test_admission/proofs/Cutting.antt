@@ -1,52 +1,28 @@
 -- The code ranges of a file of the right shape, in ascending order and cut, are its code.
-use Rattle.std.proofs.Common.{◌≡◌, ◌⊎◌, inl, inr, ⊎_elim, ℕ, suc, ◌+◌, ◌-◌, ◌/◌, ◌%◌, ◌^◌, ◌<◌, ◌≤◌, max, Bool, true, false, cond, ◌&&◌, ◌||◌, List, [], ◌∷◌, length, get_or, refl, sym, ap, ◌∙◌, subst, arith}
-use Rattle.std.specs.Prelude.{nat_lt, nat_le, ◌==◌, All, map}
+use Rattle.std.proofs.Common.{◌≡◌, ◌⊎◌, inl, inr, ℕ, suc, ◌+◌, ◌-◌, ◌%◌, ◌^◌, ◌<◌, ◌≤◌, max, Bool, true, false, cond, ◌&&◌, ◌||◌, List, [], ◌∷◌, length, get_or, get_or-drop, refl, sym, ap, ◌∙◌, subst, arith}
+use Rattle.std.specs.Prelude.{nat_lt, nat_le, All, map, filter}
 use Rattle.std.specs.List.Sorted.{IsPermutation, IsNonDecreasingBy}
-use Rattle.std.proofs.lemmas.Bool.{ltb-true, ltb-false, leb-true, le-leb, or_parts, eqb-true, and_parts, or_cases, false≢true, cases_lt}
+use Rattle.std.proofs.lemmas.Bool.{ltb-true, ltb-false, le-leb, and_from, false≢true, cases_lt}
 use Rattle.std.proofs.lemmas.Bool.Decides.{nat_tests}
 use Rattle.std.proofs.lemmas.List.Elements.{All-nil, All-cons, All-head, All-tail}
 use Rattle.std.proofs.lemmas.List.Sorted.{IsPermutation-map, list_any-IsPermutation}
 use Rattle.std.proofs.lemmas.Map.Views.{All-map-IsPermutation}
 use Rattle.std.proofs.Math.Bool.{and-false}
-use Rattle.elf_types.specs.declared.file.Section.{Section}
-use Rattle.machine.specs.Memory.{flags_of}
 use Rattle.machine.specs.Program.{LoadSegment}
-use Rattle.machine.specs.Loading.{load_segment, load_segments, lies_in_code, lies_in_any, section_ranges, segment_ranges, first_some, Segment, ElfFile}
+use Rattle.machine.specs.Loading.{load_segments, Segment, ElfFile}
 use Rattle.machine.specs.Cells.{byte_among}
-use Rattle.tests.specs.Admission.Terms.{is_cut, is_in, is_in_any}
-use Rattle.tests.specs.Admission.Rules.{is_misshapen_section, is_misshapen_segment, is_empty, section_range, segment_range}
+use Rattle.tests.specs.Admission.Terms.{is_in, is_in_any}
 use Rattle.tests.specs.Admission.CodeWords.{loads_of, ranges_of}
-use Rattle.machine.proofs.Lemmas.{all_among, among-map, among_every, every_all, fit_among}
+use Rattle.machine.proofs.Lemmas.{all_among, among-map, among_every, any_passing, every_all, fit_among}
 use Rattle.machine.specs.Members.{Among, Every}
-use Rattle.tests.proofs.Lemmas.{OfSection, of_section, even_parts, none_passes, among_load}
+use Rattle.tests.specs.declared.range.Span.{Span}
+use Rattle.tests.specs.Ranges.{span, spans}
+use Rattle.tests.proofs.Lemmas.{even_parts, even_range}
 use Rattle.test_admission.specs.declared.stretches.Stretch.{Stretch}
 use Rattle.test_admission.specs.Read.{AreRead}
 use Rattle.test_admission.specs.Shape.{IsShaped}
-use Rattle.test_admission.specs.Stretches.{Part, part_of, parts_of, span_of, Reads, has_code, whole_part, whole_parts, trimmed, cut, Follow, AreCodeOf}
-use Rattle.test_admission.proofs.Reading.{index-rest_of, reads_of}
-
--- ---- the segments of code whole
-pub spans-whole : (ss : List Segment) → map span_of (whole_parts ss) ≡ segment_ranges (load_segments ss)
-spans-whole [] = refl
-spans-whole (s ∷ ss) =
-    elim (s.kind == 1) as (λ b. map span_of (cond (b && ((flags_of s.flags).execute && nat_lt 0 s.memory)) (whole_part s ∷ whole_parts ss) (whole_parts ss)) ≡ segment_ranges (cond b (load_segment s ∷ load_segments ss) (load_segments ss))) [
-      | true ↦ elim ((flags_of s.flags).execute && nat_lt 0 s.memory) as (λ b. map span_of (cond b (whole_part s ∷ whole_parts ss) (whole_parts ss)) ≡ cond b (span_of (whole_part s) ∷ segment_ranges (load_segments ss)) (segment_ranges (load_segments ss))) [
-        | true ↦ ap (λ rs. span_of (whole_part s) ∷ rs) (spans-whole ss)
-        | false ↦ spans-whole ss
-      ]
-      | false ↦ spans-whole ss
-    ]
-
-reads_whole : (all : List Segment) → AreRead (load_segments all) → (ss : List Segment) → ((s : Segment) → Among s ss → Among s all) → All (Reads (load_segments all)) (whole_parts ss)
-reads_whole all r [] h = All-nil (Reads (load_segments all))
-reads_whole all r (s ∷ ss) h =
-    elim (has_code s) as (λ b. has_code s ≡ b → All (Reads (load_segments all)) (cond b (whole_part s ∷ whole_parts ss) (whole_parts ss))) [
-      | true ↦ λ e. All-cons (Reads (load_segments all)) (whole_part s) (whole_parts ss) (reads_of all r s s.address s.memory (h s (inl refl)) (eqb-true s.kind 1 (and_parts (s.kind == 1) _ e).0) (omega arith) (omega arith)) (reads_whole all r ss (λ t m. h t (inr m)))
-      | false ↦ λ e. reads_whole all r ss (λ t m. h t (inr m))
-    ] refl
-
-pub reads-whole : (ss : List Segment) → AreRead (load_segments ss) → All (Reads (load_segments ss)) (whole_parts ss)
-reads-whole ss r = reads_whole ss r ss (λ s m. m)
+use Rattle.test_admission.specs.Spans.{HaveSome}
+use Rattle.test_admission.specs.Stretches.{Part, part_of, parts_of, span_of, Reads, holds_code, is_held, trimmed, cut, Follow, AreCodeOf}
 
 -- ---- ranges of whole words
 pub record IsWhole (r : ℕ × ℕ) : Type 0 where
@@ -55,63 +31,31 @@ pub record IsWhole (r : ℕ × ℕ) : Type 0 where
   pub size : (r.1 - r.0) % 4 ≡ 0
   pub fit : r.1 ≤ 2 ^ 64
 
--- a section that lies in a segment ends where all such segments do, or before
-pub lies_low : (n : ℕ) (ls : List LoadSegment) (s : Section) → ((l : LoadSegment) → Among l ls → l.address ≤ s.address → s.address + s.size ≤ l.address + l.size → s.address + s.size ≤ n)
-    → lies_in_any s ls ≡ true → s.address + s.size ≤ n
-lies_low n [] s h e = absurd (false≢true e)
-lies_low n (l ∷ ls) s h e =
-    ⊎_elim
-    (λ a.
-    let p = and_parts l.flags.execute (nat_le l.address s.address && nat_le (s.address + s.size) (l.address + l.size)) a in
-    let q = and_parts (nat_le l.address s.address) (nat_le (s.address + s.size) (l.address + l.size)) p.1 in
-    h l (inl refl) (leb-true l.address s.address q.0) (leb-true (s.address + s.size) (l.address + l.size) q.1))
-    (λ r. lies_low n ls s (λ t m. h t (inr m)) r)
-    (or_cases (lies_in_code s l) (lies_in_any s ls) e)
-
--- a segment that is a code range
-pub record SegmentOf (ss : List Segment) (r : ℕ × ℕ) : Type 0 where
-  pub segment : Segment
-  pub among : Among segment ss
-  pub code : has_code segment ≡ true
-  pub is : r ≡ segment_range segment
-
-segment_later : (s : Segment) (ss : List Segment) (r : ℕ × ℕ) → SegmentOf ss r → SegmentOf (s ∷ ss) r
-segment_later s ss r o = record { segment = o.segment; among = inr o.among; code = o.code; is = o.is }
-
-segment_step : (s : Segment) (ss : List Segment) (r : ℕ × ℕ) → (Among r (map span_of (whole_parts ss)) → SegmentOf ss r) → (b : Bool) → has_code s ≡ b → Among r (map span_of (cond b (whole_part s ∷ whole_parts ss) (whole_parts ss))) → SegmentOf (s ∷ ss) r
-segment_step s ss r rec true e m = ⊎_elim (λ d. record { segment = s; among = inl refl; code = e; is = d }) (λ k. segment_later s ss r (rec k)) m
-segment_step s ss r rec false e m = segment_later s ss r (rec m)
-
-pub segment_of : (ss : List Segment) (r : ℕ × ℕ) → Among r (map span_of (whole_parts ss)) → SegmentOf ss r
-segment_of [] r m = absurd m
-segment_of (s ∷ ss) r m = segment_step s ss r (segment_of ss r) (has_code s) refl m
+filter_all : {A : Type 0} (p : A → Bool) (xs : List A) → ((x : A) → Among x xs → p x ≡ true) → filter p xs ≡ xs
+filter_all p [] h = refl
+filter_all p (x ∷ xs) h = rw (h x (inl refl)) (ap (λ rest. x ∷ rest) (filter_all p xs (λ y m. h y (inr m))))
 
 module _ (f : ElfFile) (read : AreRead (loads_of f)) (shaped : IsShaped f) where
-  whole_section : (r : ℕ × ℕ) → OfSection (loads_of f) f.sections r → IsWhole r
-  whole_section r o =
-      let s = o.section in
-      let good : is_misshapen_section (loads_of f) s ≡ false = none_passes (is_misshapen_section (loads_of f)) s f.sections shaped.sections o.among in
-      let n = even_parts (section_range s) (rw (o.code, o.lies) at (or_parts (is_cut (loads_of f) s) _ good).1) in
-      let room = ltb-true 0 s.size (and_parts (s.flags / 4 % 2 == 1) (nat_lt 0 s.size) (and_parts (s.flags / 2 % 2 == 1) _ o.code).1).1 in
-      let fit = lies_low (2 ^ 64) (loads_of f) s (λ l m a b. let end = (fit_among l (loads_of f) read.fit m).1 in omega (arith, b, end)) o.lies in
-      subst IsWhole (sym o.is) (record { some = omega (arith, room); start = n.0; size = n.1; fit = fit })
-
-  whole_segment : is_empty (section_ranges (loads_of f) f.sections) ≡ true → (r : ℕ × ℕ) → SegmentOf f.segments r → IsWhole r
-  whole_segment none r o =
-      let s = o.segment in
-      let good : is_misshapen_segment f s ≡ false = none_passes (is_misshapen_segment f) s f.segments shaped.segments o.among in
-      let k = and_parts (s.kind == 1) _ o.code in
-      let x = and_parts (flags_of s.flags).execute (nat_lt 0 s.memory) k.1 in
-      let n = even_parts (segment_range s) (rw (none, k.0, x.1, x.0) at good) in
-      let room = ltb-true 0 s.memory x.1 in
-      let fit = (fit_among (load_segment s) (loads_of f) read.fit (among_load s f.segments (eqb-true s.kind 1 k.0) o.among)).1 in
-      subst IsWhole (sym o.is) (record { some = omega (arith, room); start = n.0; size = n.1; fit = fit })
-
   whole_ranges : (r : ℕ × ℕ) → Among r (ranges_of f) → IsWhole r
-  whole_ranges r m = by (section_ranges (loads_of f) f.sections) refl m where
-    by : (rs : List (ℕ × ℕ)) → section_ranges (loads_of f) f.sections ≡ rs → Among r (first_some rs (segment_ranges (loads_of f))) → IsWhole r
-    by [] e k = whole_segment (ap is_empty e) r (segment_of f.segments r (subst (Among r) (sym (spans-whole f.segments)) k))
-    by (x ∷ xs) e k = whole_section r (of_section (loads_of f) f.sections r (subst (Among r) (sym e) k))
+  whole_ranges r m =
+      let e = even_range f shaped.sections shaped.segments r m in
+      let n = even_parts r e.1 in
+      let to = e.0.to in
+      let end = (fit_among e.0.segment (loads_of f) read.fit e.0.among).1 in
+      record { some = e.0.some; start = n.0; size = n.1; fit = omega (arith, to, end) }
+
+  held : (r : ℕ × ℕ) → Among r (ranges_of f) → is_held (loads_of f) r ≡ true
+  held r m =
+      let o = (even_range f shaped.sections shaped.segments r m).0 in
+      let end = o.segment.address + o.segment.size in
+      any_passing (holds_code r) o.segment (loads_of f) o.among (and_from _ _ o.executes (and_from (nat_le o.segment.address r.0) (nat_le r.1 end) (le-leb o.segment.address r.0 o.from) (le-leb r.1 end o.to)))
+
+  module _ (rs : List Span) (e : spans rs ≡ ranges_of f) where
+    pub have_some : HaveSome rs
+    have_some = every_all (λ r. r.start < r.end) rs (among_every (λ r. r.start < r.end) rs (λ r m. (whole_ranges (span r) (subst (Among (span r)) e (among-map span r rs m))).some))
+
+    pub all_held : (ss : List Segment) → ss ≡ f.segments → (ps : List (ℕ × ℕ)) → ps ≡ filter (is_held (load_segments ss)) (spans rs) → ps ≡ ranges_of f
+    all_held ss s ps k = k ∙ (λ i. filter (is_held (load_segments (s i))) (e i)) ∙ filter_all (is_held (loads_of f)) (ranges_of f) held
 
 -- ---- parts in the order of their starts
 abbrev pub Starts : ℕ → List Part → Type 0
@@ -180,7 +124,7 @@ reads-trimmed ls done p r = record {
   bytes = λ k lt.
       let n = max done p.start - p.start in
       let at : p.start + (n + k) ≡ max done p.start + k = omega arith in
-      index-rest_of n p.bytes k ∙ r.bytes (n + k) (omega (arith, lt)) ∙ ap (byte_among ls) at;
+      get_or-drop n p.bytes k 0 ∙ r.bytes (n + k) (omega (arith, lt)) ∙ ap (byte_among ls) at;
 }
 
 reads-cut : (ls : List LoadSegment) (done : ℕ) (ps : List Part) → All (Reads ls) ps → All (Reads ls) (cut done ps)
@@ -199,10 +143,10 @@ starts_from low (s ∷ ss) l up = (
   starts_from s.start ss (λ d lt. up 0 1 d (omega arith) (omega (arith, lt))) (λ i j d le lt. up (suc i) (suc j) d (omega (arith, le)) (omega (arith, lt))),
 )
 
-module _ (f : ElfFile) (read : AreRead (loads_of f)) (shaped : IsShaped f) (xs ys : List Stretch) (spans : map span_of (parts_of xs) ≡ ranges_of f) (moved : IsPermutation xs ys) where
+module _ (f : ElfFile) (read : AreRead (loads_of f)) (shaped : IsShaped f) (xs ys : List Stretch) (are : map span_of (parts_of xs) ≡ ranges_of f) (moved : IsPermutation xs ys) where
   whole : (p : Part) → Among p (parts_of ys) → WholePart p
   whole p =
-      let all = among_every WholePart (parts_of xs) (λ t m. whole_ranges f read shaped (span_of t) (subst (Among (span_of t)) spans (among-map span_of t (parts_of xs) m))) in
+      let all = among_every WholePart (parts_of xs) (λ t m. whole_ranges f read shaped (span_of t) (subst (Among (span_of t)) are (among-map span_of t (parts_of xs) m))) in
       all_among WholePart p (parts_of ys) (All-map-IsPermutation part_of WholePart xs ys moved (every_all WholePart (parts_of xs) all))
 
   pub ranges_fit : All (λ s. s.start + s.size ≤ 2 ^ 64) ys
@@ -219,5 +163,5 @@ module _ (f : ElfFile) (read : AreRead (loads_of f)) (shaped : IsShaped f) (xs y
             in_any-cut q 0 0 (parts_of ys) starts all
             ∙ ap (λ b. b && is_in_any (map span_of (parts_of ys)) q) (le-leb 0 q (omega arith))
             ∙ sym (list_any-IsPermutation (λ r. is_in r q) (map span_of (parts_of xs)) (map span_of (parts_of ys)) (IsPermutation-map span_of (parts_of xs) (parts_of ys) (IsPermutation-map part_of xs ys moved)))
-            ∙ ap (λ rs. is_in_any rs q) spans;
+            ∙ ap (λ rs. is_in_any rs q) are;
       }

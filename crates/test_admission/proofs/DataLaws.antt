@@ -15,8 +15,8 @@ use Rattle.machine.proofs.Lemmas.{passing, any_passing}
 use Rattle.machine.specs.Members.{Among}
 use Rattle.tests.proofs.Lemmas.{Spaced, AllSome, AllRoom, in_from, in_parts, in_any-joined, spaced-joined, image_room}
 use Rattle.qed_model.proofs.Lemmas.{same_tests}
-use Rattle.test_admission.specs.declared.spans.Span.{Span}
-use Rattle.test_admission.specs.Spans.{all_bounds}
+use Rattle.tests.specs.declared.range.Span.{Span}
+use Rattle.tests.specs.Ranges.{spans}
 use Rattle.test_admission.specs.DataSpans.{code_parts, AreCode}
 use Rattle.test_admission.specs.Order.{PassesBelow}
 use Rattle.test_admission.proofs.Firsts.{found, none_found, none_first}
@@ -64,7 +64,7 @@ some_joined rs h = of 0 (joined rs) (spaced-joined rs h) where
   of low (t ∷ ts) s = (s.1, of (t.1 + 1) ts s.2)
 
 -- a segment shares a word with code where it meets a joined range of code
-pub meets_joined : (ss : List Segment) (code : List Span) (s : Segment) → AreCode (image_segments ss) code → 0 < s.memory → list_any (do_meet (rounded s)) (all_bounds code) ≡ meets_code (image_segments ss) s
+pub meets_joined : (ss : List Segment) (code : List Span) (s : Segment) → AreCode (image_segments ss) code → 0 < s.memory → list_any (do_meet (rounded s)) (spans code) ≡ meets_code (image_segments ss) s
 meets_joined ss code s h room =
     let image = image_segments ss in
     let some = some_code image (image_room ss) in

@@ -1,17 +1,17 @@
 -- Sorted ranges that are joined from the front are the joined ranges.
 use Rattle.std.proofs.Common.{◌≡◌, ℕ, suc, ◌+◌, ◌<◌, ◌≤◌, max, true, false, cond, ◌&&◌, ◌||◌, List, [], ◌∷◌, length, get_or, refl, sym, ap, ◌∙◌, arith}
-use Rattle.std.specs.Prelude.{nat_lt, nat_le, All, AllPairs}
+use Rattle.std.specs.Prelude.{nat_lt, nat_le}
 use Rattle.std.specs.List.Sorted.{IsPermutation, IsNonDecreasingBy}
 use Rattle.std.proofs.Math.Bool.{or_assoc}
 use Rattle.std.proofs.lemmas.Bool.{leb-true, leb-false}
 use Rattle.std.proofs.lemmas.Bool.Decides.{nat_tests}
-use Rattle.std.proofs.lemmas.List.Elements.{All-nil, All-cons, All-head, All-tail}
+use Rattle.std.proofs.lemmas.List.Elements.{All-head, All-tail}
 use Rattle.std.proofs.lemmas.List.Sorted.{All-permutation, IsPermutation-map, list_any-IsPermutation}
-use Rattle.std.proofs.lemmas.List.Kept.{AllPairs-cons}
 use Rattle.tests.specs.Admission.DataRanges.{is_in, is_in_any, joined}
 use Rattle.tests.proofs.Lemmas.{Spaced, AllSome, spaced-joined, in_any-joined, same_ranges}
-use Rattle.test_admission.specs.declared.spans.Span.{Span}
-use Rattle.test_admission.specs.Spans.{bounds_of, all_bounds, glue, glued, HaveSome, AreSpaced}
+use Rattle.tests.specs.declared.range.Span.{Span}
+use Rattle.tests.specs.Ranges.{span, spans}
+use Rattle.test_admission.specs.Spans.{glue, glued, HaveSome}
 
 -- ---- ranges in the order of their starts
 -- each begins at the start of the one before it, or behind it, and has some address
@@ -54,11 +54,11 @@ in_any-glued q [] h = refl
 in_any-glued q (r ∷ rs) h = in_any-glue q r rs h.1 h.2
 
 -- ---- a sort
-some_bounds : (ss : List Span) → HaveSome ss → AllSome (all_bounds ss)
+some_bounds : (ss : List Span) → HaveSome ss → AllSome (spans ss)
 some_bounds [] h = tt
 some_bounds (s ∷ ss) h = (All-head (λ t. t.start < t.end) s ss h, some_bounds ss (All-tail (λ t. t.start < t.end) s ss h))
 
-starts_from : (low : ℕ) (ss : List Span) → ((d : Span) → 0 < length ss → low ≤ (get_or ss 0 d).start) → IsNonDecreasingBy (λ s. s.start) ss → HaveSome ss → Starts low (all_bounds ss)
+starts_from : (low : ℕ) (ss : List Span) → ((d : Span) → 0 < length ss → low ≤ (get_or ss 0 d).start) → IsNonDecreasingBy (λ s. s.start) ss → HaveSome ss → Starts low (spans ss)
 starts_from low [] l up h = tt
 starts_from low (s ∷ ss) l up h = (
   l s (omega arith),
@@ -69,34 +69,18 @@ starts_from low (s ∷ ss) l up h = (
       (All-tail (λ t. t.start < t.end) s ss h),
 )
 
--- ---- spaced ranges
-have_some : (low : ℕ) (ss : List Span) → Spaced low (all_bounds ss) → HaveSome ss
-have_some low [] h = All-nil (λ s. s.start < s.end)
-have_some low (s ∷ ss) h = All-cons (λ t. t.start < t.end) s ss h.1 (have_some (s.end + 1) ss h.2)
-
-all_from : (low l : ℕ) (ss : List Span) → l ≤ low → Spaced low (all_bounds ss) → All (λ s. l ≤ s.start) ss
-all_from low l [] le h = All-nil (λ s. l ≤ s.start)
-all_from low l (s ∷ ss) le h = All-cons (λ t. l ≤ t.start) s ss (omega (arith, le, h.0)) (all_from (s.end + 1) l ss (omega (arith, le, h.0, h.1)) h.2)
-
-have_gaps : (low : ℕ) (ss : List Span) → Spaced low (all_bounds ss) → AllPairs (λ s t. s.end < t.start) ss
-have_gaps low [] h = λ i j d lt le. absurd (omega (arith, le))
-have_gaps low (s ∷ ss) h = AllPairs-cons (λ t u. t.end < u.start) s ss (λ k d l. let g = all_from (s.end + 1) (s.end + 1) ss (omega arith) h.2 k d l in omega (arith, g)) (have_gaps (s.end + 1) ss h.2)
-
-pub are_spaced : (ss : List Span) → Spaced 0 (all_bounds ss) → AreSpaced ss
-are_spaced ss h = record { some = have_some 0 ss h; gaps = have_gaps 0 ss h }
-
 -- ---- so sorting and joining from the front give the joined ranges
 module _ (xs ys : List Span) (some : HaveSome xs) (moved : IsPermutation xs ys) (up : IsNonDecreasingBy (λ s. s.start) ys) where
-  starts : Starts 0 (all_bounds ys)
+  starts : Starts 0 (spans ys)
   starts = starts_from 0 ys (λ d lt. omega arith) up (All-permutation (λ s. s.start < s.end) xs ys moved some)
 
-  pub glued_spaced : Spaced 0 (glued (all_bounds ys))
-  glued_spaced = spaced-glued (all_bounds ys) starts
+  pub glued_spaced : Spaced 0 (glued (spans ys))
+  glued_spaced = spaced-glued (spans ys) starts
 
-  pub glued_joined : glued (all_bounds ys) ≡ joined (all_bounds xs)
+  pub glued_joined : glued (spans ys) ≡ joined (spans xs)
   glued_joined =
-      same_ranges 0 0 (glued (all_bounds ys)) (joined (all_bounds xs)) glued_spaced (spaced-joined (all_bounds xs) (some_bounds xs some))
+      same_ranges 0 0 (glued (spans ys)) (joined (spans xs)) glued_spaced (spaced-joined (spans xs) (some_bounds xs some))
       (λ q.
-      in_any-glued q (all_bounds ys) starts
-      ∙ sym (list_any-IsPermutation (λ r. is_in r q) (all_bounds xs) (all_bounds ys) (IsPermutation-map bounds_of xs ys moved))
-      ∙ sym (in_any-joined q (all_bounds xs) (some_bounds xs some)))
+      in_any-glued q (spans ys) starts
+      ∙ sym (list_any-IsPermutation (λ r. is_in r q) (spans xs) (spans ys) (IsPermutation-map span xs ys moved))
+      ∙ sym (in_any-joined q (spans xs) (some_bounds xs some)))

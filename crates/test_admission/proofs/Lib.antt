@@ -2,7 +2,6 @@ pub mod OrderLaws
 pub mod Firsts
 pub mod ShapeLaws
 pub mod Joining
-pub mod Meeting
 pub mod DataLaws
 pub mod PlacesLaws
 pub mod Reading

@@ -1,9 +1,8 @@
 -- The words of the code of a file are at its code addresses, in ascending order.
 use Rattle.std.proofs.Common.{◌≡◌, inl, inr, ⊎_elim, ℕ, zero, suc, ◌+◌, ◌-◌, ◌*◌, ◌/◌, ◌%◌, ◌^◌, ◌<◌, ◌≤◌, true, List, [], ◌∷◌, ◌++◌, length, get_or, drop, None, Some, refl, sym, ap, ◌∙◌, subst, arith, append_assoc, add-one, drop-cons}
-use Rattle.std.specs.Prelude.{map, ◌==◌, All, AllPairs}
+use Rattle.std.specs.Prelude.{map, ◌==◌, All}
 use Rattle.std.proofs.lemmas.Bool.{and_parts, and_from, eqb-true, eq-eqb, or_cases, or_left, or_right, false≢true, cases_lt}
 use Rattle.std.proofs.lemmas.List.{length-append, length-map, map-append}
-use Rattle.std.proofs.lemmas.List.Kept.{AllPairs-cons}
 use Rattle.std.proofs.lemmas.List.Elements.{All-nil, All-cons, All-head, All-tail, All-push, All-append}
 use Rattle.tests.specs.declared.admit.AdmitError.{AdmitError}
 use Rattle.tests.specs.declared.admit.AdmitError.TheVariants as error
@@ -16,13 +15,13 @@ use Rattle.tests.specs.Admission.Refusals.{HasFault, place_of, IsRefusedBy}
 use Rattle.tests.specs.Admission.Test.{IsCodeWord, AreCodeWords}
 use Rattle.machine.proofs.Lemmas.{among_of, contains_of, among-left, among-right, among-either}
 use Rattle.machine.specs.Members.{Among}
-use Rattle.tests.proofs.Lemmas.{in_parts, in_from, addresses_only}
+use Rattle.tests.proofs.Lemmas.{Rising, in_parts, in_from, addresses_only, pairs_of, rising_lower}
 use Rattle.test_admission.specs.declared.rules.CodeRule.TheVariants as rule
 use Rattle.test_admission.specs.declared.stretches.Stretch.{Stretch}
 use Rattle.test_admission.specs.Order.{PassesBelow}
 use Rattle.test_admission.specs.Stretches.{Part, part_of, parts_of, span_of, Reads, Follow, AreCodeOf}
 use Rattle.test_admission.specs.Faults.{placed_word, first_among}
-use Rattle.test_admission.specs.Words.{words_from, part_words, words_among, word_total, pair_of, pairs_of, IsDecoded}
+use Rattle.test_admission.specs.Words.{words_from, part_words, words_among, word_total, pair_of, pairs_of as pairs, IsDecoded}
 use Rattle.test_admission.proofs.OrderLaws.{passes_more, refused}
 use Rattle.test_admission.proofs.FirstFault.{none_split}
 use Rattle.test_admission.proofs.Faulting.{part_word}
@@ -44,35 +43,18 @@ few_words low [] h l = omega (arith, l)
 few_words low (p ∷ ps) h l = let r = few_words (p.start + p.size) ps h.5 h.4 in let a = h.0 in omega (arith, r, a)
 
 -- ---- in ascending order
-abbrev Rising : ℕ → List (ℕ × ℕ) → Type 0
-Rising low [] = Unit {0}
-Rising low (c ∷ cs) = (low ≤ c.0) × Rising (c.0 + 1) cs
-
-rising_lower : (low l : ℕ) (cs : List (ℕ × ℕ)) → l ≤ low → Rising low cs → Rising l cs
-rising_lower low l [] h r = tt
-rising_lower low l (c ∷ cs) h r = (omega (arith, h, r.0), r.1)
-
-rising-words_from : (p : Part) (k n low : ℕ) (cs : List (ℕ × ℕ)) → low ≤ p.start + 4 * k → Rising (p.start + 4 * (k + n)) cs → Rising low (words_from p k n ++ cs)
-rising-words_from p k zero low cs l r = rising_lower (p.start + 4 * (k + 0)) low cs (omega (arith, l)) r
+rising-words_from : (p : Part) (k n low : ℕ) (cs : List (ℕ × ℕ)) → low ≤ p.start + 4 * k → Rising (p.start + 4 * (k + n)) (firsts cs) → Rising low (firsts (words_from p k n ++ cs))
+rising-words_from p k zero low cs l r = rising_lower (p.start + 4 * (k + 0)) low (firsts cs) (omega (arith, l)) r
 rising-words_from p k (suc n) low cs l r =
     let e : p.start + 4 * (k + suc n) ≡ p.start + 4 * (k + 1 + n) = omega arith in
-    (l, rising-words_from p (k + 1) n (p.start + 4 * k + 1) cs (omega arith) (subst (λ m. Rising m cs) e r))
+    (l, rising-words_from p (k + 1) n (p.start + 4 * k + 1) cs (omega arith) (subst (λ m. Rising m (firsts cs)) e r))
 
-rising-words_among : (low : ℕ) (ps : List Part) → Follow low ps → Rising low (words_among ps)
+rising-words_among : (low : ℕ) (ps : List Part) → Follow low ps → Rising low (firsts (words_among ps))
 rising-words_among low [] h = tt
 rising-words_among low (p ∷ ps) h =
     let size = h.3 in
     let e : p.start + p.size ≡ p.start + 4 * (0 + p.size / 4) = omega (arith, size) in
-    rising-words_from p 0 (p.size / 4) low (words_among ps) (let a = h.0 in omega (arith, a)) (subst (λ m. Rising m (words_among ps)) e (rising-words_among (p.start + p.size) ps h.5))
-
-from_rising : (low : ℕ) (cs : List (ℕ × ℕ)) (j d : ℕ) → Rising low cs → j < length (firsts cs) → low ≤ get_or (firsts cs) j d
-from_rising low [] j d r lt = absurd (omega (arith, lt))
-from_rising low (c ∷ cs) zero d r lt = r.0
-from_rising low (c ∷ cs) (suc j) d r lt = let h = from_rising (c.0 + 1) cs j d r.1 (omega (arith, lt)) in let a = r.0 in omega (arith, h, a)
-
-ascend : (low : ℕ) (cs : List (ℕ × ℕ)) → Rising low cs → AllPairs (λ a b. a < b) (firsts cs)
-ascend low [] r = λ i j d lt le. absurd (omega (arith, le))
-ascend low (c ∷ cs) r = AllPairs-cons (λ a b. a < b) c.0 (firsts cs) (λ k d lt. let h = from_rising (c.0 + 1) cs k d r.1 lt in omega (arith, h)) (ascend (c.0 + 1) cs r.1)
+    rising-words_from p 0 (p.size / 4) low (words_among ps) (let a = h.0 in omega (arith, a)) (subst (λ m. Rising m (firsts (words_among ps))) e (rising-words_among (p.start + p.size) ps h.5))
 
 -- ---- each code address, and no other
 record WordOf (p : Part) (k n a : ℕ) : Type 0 where
@@ -126,7 +108,7 @@ in_listed low a (p ∷ ps) h c m =
 -- ---- so they are the code addresses
 are_addresses : (f : ElfFile) (ps : List Part) → AreCodeOf f ps → AreCodeAddresses f (firsts (words_among ps))
 are_addresses f ps code = record {
-  ascend = ascend 0 (words_among ps) (rising-words_among 0 ps code.follow);
+  ascend = pairs_of 0 (firsts (words_among ps)) (rising-words_among 0 ps code.follow);
   all = λ a. (
     (λ c. let p = listed_in 0 a ps code.follow (among_of a (firsts (words_among ps)) c) in and_from (a % 4 == 0) (is_in_any (ranges_of f) a) (eq-eqb (a % 4) 0 p.0) (sym (code.same a) ∙ p.1)),
     (λ e. let p = and_parts (a % 4 == 0) (is_in_any (ranges_of f) a) e in contains_of a (firsts (words_among ps)) (in_listed 0 a ps code.follow (eqb-true (a % 4) 0 p.0) (code.same a ∙ p.1))),
@@ -153,15 +135,15 @@ module _ (f : ElfFile) (o : Options) (ps : List Part) (code : AreCodeOf f ps) (p
     by d p h = absurd (omega (arith, p))
 
 -- ---- one word more of a part
-pub push_step : (p : Part) (k count : ℕ) (ws more : List CodeWord) (x : CodeWord) (all : List (ℕ × ℕ)) → more ≡ ws ++ x ∷ [] → k < count → pair_of x ≡ placed_word p k → pairs_of ws ++ words_from p k (count - k) ≡ all → pairs_of more ++ words_from p (k + 1) (count - (k + 1)) ≡ all
+pub push_step : (p : Part) (k count : ℕ) (ws more : List CodeWord) (x : CodeWord) (all : List (ℕ × ℕ)) → more ≡ ws ++ x ∷ [] → k < count → pair_of x ≡ placed_word p k → pairs ws ++ words_from p k (count - k) ≡ all → pairs more ++ words_from p (k + 1) (count - (k + 1)) ≡ all
 push_step p k count ws more x all e lt is h =
     let n : count - k ≡ suc (count - (k + 1)) = omega (arith, lt) in
     let rest = words_from p (k + 1) (count - (k + 1)) in
-    ap (λ xs. pairs_of xs ++ rest) e
+    ap (λ xs. pairs xs ++ rest) e
     ∙ ap (λ xs. xs ++ rest) (map-append pair_of ws (x ∷ []))
-    ∙ append_assoc (pairs_of ws) (pair_of x ∷ []) rest
-    ∙ ap (λ c. pairs_of ws ++ (c ∷ rest)) is
-    ∙ ap (λ m. pairs_of ws ++ words_from p k m) (sym n)
+    ∙ append_assoc (pairs ws) (pair_of x ∷ []) rest
+    ∙ ap (λ c. pairs ws ++ (c ∷ rest)) is
+    ∙ ap (λ m. pairs ws ++ words_from p k m) (sym n)
     ∙ h
 
 pub decoded_step : (ws more : List CodeWord) (x : CodeWord) → more ≡ ws ++ x ∷ [] → decode_of x.word ≡ Some x.ins → All IsDecoded ws → All IsDecoded more
@@ -191,18 +173,18 @@ all_right : (f : ElfFile) (ps : List Part) → All (Reads (loads_of f)) ps → A
 all_right f [] h = All-nil (λ c. c.1 ≡ word_at f c.0)
 all_right f (p ∷ ps) h = All-append (λ c. c.1 ≡ word_at f c.0) (part_words p) (words_among ps) (words_right f p 0 (p.size / 4) (All-head (Reads (loads_of f)) p ps h) (omega arith)) (all_right f ps (All-tail (Reads (loads_of f)) p ps h))
 
-firsts_of : (cs : List CodeWord) → map (λ c. c.at) cs ≡ firsts (pairs_of cs)
+firsts_of : (cs : List CodeWord) → map (λ c. c.at) cs ≡ firsts (pairs cs)
 firsts_of [] = refl
 firsts_of (c ∷ cs) = ap (λ zs. c.at ∷ zs) (firsts_of cs)
 
-each_word : (f : ElfFile) (cs : List CodeWord) → All IsDecoded cs → All (λ c. c.1 ≡ word_at f c.0) (pairs_of cs) → All (IsCodeWord f) cs
+each_word : (f : ElfFile) (cs : List CodeWord) → All IsDecoded cs → All (λ c. c.1 ≡ word_at f c.0) (pairs cs) → All (IsCodeWord f) cs
 each_word f [] d h = All-nil (IsCodeWord f)
 each_word f (c ∷ cs) d h =
     All-cons (IsCodeWord f) c cs
-    (record { word = All-head (λ x. x.1 ≡ word_at f x.0) (pair_of c) (pairs_of cs) h; instruction = (All-head IsDecoded c cs d).instruction })
-    (each_word f cs (All-tail IsDecoded c cs d) (All-tail (λ x. x.1 ≡ word_at f x.0) (pair_of c) (pairs_of cs) h))
+    (record { word = All-head (λ x. x.1 ≡ word_at f x.0) (pair_of c) (pairs cs) h; instruction = (All-head IsDecoded c cs d).instruction })
+    (each_word f cs (All-tail IsDecoded c cs d) (All-tail (λ x. x.1 ≡ word_at f x.0) (pair_of c) (pairs cs) h))
 
-pub are_words : (f : ElfFile) (ps : List Part) (cs : List CodeWord) → AreCodeOf f ps → pairs_of cs ≡ words_among ps → All IsDecoded cs → AreCodeWords f cs
+pub are_words : (f : ElfFile) (ps : List Part) (cs : List CodeWord) → AreCodeOf f ps → pairs cs ≡ words_among ps → All IsDecoded cs → AreCodeWords f cs
 are_words f ps cs code e d = record {
   addresses = subst (AreCodeAddresses f) (sym (firsts_of cs ∙ ap firsts e)) (are_addresses f ps code);
   each = each_word f cs d (subst (All (λ c. c.1 ≡ word_at f c.0)) (sym e) (all_right f ps code.read));

@@ -1,9 +1,9 @@
 -- The data of a file, as it is told to the rules on data.
 use Rattle.std.specs.Prelude.{◌≡◌, ℕ, List, map, filter}
 use Rattle.tests.specs.Admission.DataRanges.{is_executed, rounded, joined, data_ranges, Segment}
-use Rattle.test_admission.specs.declared.spans.Span.{Span}
+use Rattle.tests.specs.declared.range.Span.{Span}
 use Rattle.test_admission.specs.declared.data_ranges.DataSpans.{DataSpans}
-use Rattle.test_admission.specs.Spans.{all_bounds, AreSpaced}
+use Rattle.tests.specs.Ranges.{spans, span, AreSpaced}
 
 -- the segments of an image that are executed, rounded out
 abbrev pub code_parts : List Segment → List (ℕ × ℕ)
@@ -11,11 +11,11 @@ code_parts image = map rounded (filter is_executed image)
 
 -- the ranges are those of code, rounded out and joined
 pub record AreCode (image : List Segment) (ss : List Span) : Type 0 where
-  pub ranges : all_bounds ss ≡ joined (code_parts image)
-  pub spaced : AreSpaced ss
+  pub ranges : spans ss ≡ joined (code_parts image)
+  pub spaced : AreSpaced span ss
 
 -- the aligned words of code, and the data ranges
 pub record IsDataOf (image : List Segment) (d : DataSpans) : Type 0 where
   pub code : AreCode image d.code.items
-  pub ranges : all_bounds d.ranges.items ≡ data_ranges image
-  pub spaced : AreSpaced d.ranges.items
+  pub ranges : spans d.ranges.items ≡ data_ranges image
+  pub spaced : AreSpaced span d.ranges.items

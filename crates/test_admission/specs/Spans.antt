@@ -1,13 +1,6 @@
 -- Ranges of addresses that are sorted and joined.
-use Rattle.std.specs.Prelude.{ℕ, ◌<◌, nat_le, cond, max, List, [], ◌∷◌, map, All, AllPairs}
-use Rattle.test_admission.specs.declared.spans.Span.{Span}
-
--- a range by its first address and the one behind its last
-abbrev pub bounds_of : Span → ℕ × ℕ
-bounds_of s = (s.start, s.end)
-
-abbrev pub all_bounds : List Span → List (ℕ × ℕ)
-all_bounds ss = map bounds_of ss
+use Rattle.std.specs.Prelude.{ℕ, ◌<◌, nat_le, cond, max, List, [], ◌∷◌, All}
+use Rattle.tests.specs.declared.range.Span.{Span}
 
 -- a range joined with those behind it, which begin no earlier, as long as they touch or overlap it
 abbrev pub glue : ℕ × ℕ → List (ℕ × ℕ) → List (ℕ × ℕ)
@@ -21,8 +14,3 @@ glued (r ∷ rs) = glue r rs
 -- each range has some address
 abbrev pub HaveSome : List Span → Type 0
 HaveSome ss = All (λ s. s.start < s.end) ss
-
--- ranges ascend with a gap between any two, and each has some address
-pub record AreSpaced (ss : List Span) : Type 0 where
-  pub some : HaveSome ss
-  pub gaps : AllPairs (λ s t. s.end < t.start) ss

@@ -1,8 +1,7 @@
 -- The code of a file in stretches, each in one segment.
-use Rattle.std.specs.Prelude.{◌≡◌, ℕ, ◌+◌, ◌-◌, ◌%◌, ◌^◌, ◌<◌, ◌≤◌, nat_lt, ◌==◌, ◌&&◌, Bool, cond, min, max, List, [], ◌∷◌, map, drop, length, slice_index, All}
-use Rattle.elf_types.specs.declared.file.Section.{Section}
-use Rattle.machine.specs.Memory.{flags_of}
-use Rattle.machine.specs.Loading.{is_code_section, lies_in_any, Segment, ElfFile}
+use Rattle.std.specs.Prelude.{◌≡◌, ℕ, ◌+◌, ◌-◌, ◌%◌, ◌^◌, ◌<◌, ◌≤◌, nat_lt, nat_le, ◌&&◌, Bool, cond, max, List, [], ◌∷◌, map, drop, slice_index, All}
+use Rattle.std.specs.List.{list_any}
+use Rattle.elf_types.specs.declared.file.ElfFile.{ElfFile}
 use Rattle.machine.specs.Program.{LoadSegment}
 use Rattle.machine.specs.Cells.{byte_among}
 use Rattle.tests.specs.Admission.DataRanges.{is_in_any}
@@ -29,34 +28,22 @@ AllFit ss = All (λ s. s.start + s.size ≤ 2 ^ 64) ss
 abbrev pub span_of : Part → ℕ × ℕ
 span_of p = (p.start, p.start + p.size)
 
--- bytes from one of them on
-abbrev pub rest_of : ℕ → List ℕ → List ℕ
-rest_of n bytes = drop (min n (length bytes)) bytes
-
 -- its bytes are those of the image, where zeros follow them
 pub record Reads (ls : List LoadSegment) (p : Part) : Type 0 where
   pub bytes : (k : ℕ) → k < p.size → slice_index p.bytes k ≡ byte_among ls (p.start + k)
 
--- whether a section is a code range
-pub record IsRange (ls : List LoadSegment) (s : Section) (found : Bool) : Type 0 where
-  pub is : (is_code_section s && lies_in_any s ls) ≡ found
+-- an executable segment has all addresses of a range
+abbrev pub holds_code : ℕ × ℕ → LoadSegment → Bool
+holds_code r l = l.flags.execute && (nat_le l.address r.0 && nat_le r.1 (l.address + l.size))
 
--- a segment is loaded, is executable and has bytes in memory
-abbrev pub has_code : Segment → Bool
-has_code s = s.kind == 1 && ((flags_of s.flags).execute && nat_lt 0 s.memory)
-
--- such segments whole
-abbrev pub whole_part : Segment → Part
-whole_part s = record { start = s.address; size = s.memory; bytes = rest_of (s.address - s.address) s.bytes }
-
-abbrev pub whole_parts : List Segment → List Part
-whole_parts [] = []
-whole_parts (s ∷ ss) = cond (has_code s) (whole_part s ∷ whole_parts ss) (whole_parts ss)
+-- one of the segments does
+abbrev pub is_held : List LoadSegment → ℕ × ℕ → Bool
+is_held ls r = list_any (holds_code r) ls
 
 -- ---- cut, so that none has an address of another
 -- what a part has from an address on, or all of it where it begins behind that
 abbrev pub trimmed : ℕ → Part → Part
-trimmed done p = record { start = max done p.start; size = p.start + p.size - max done p.start; bytes = rest_of (max done p.start - p.start) p.bytes }
+trimmed done p = record { start = max done p.start; size = p.start + p.size - max done p.start; bytes = drop (max done p.start - p.start) p.bytes }
 
 -- parts in the order of their starts, without what is done
 abbrev pub cut : ℕ → List Part → List Part

@@ -18,6 +18,7 @@ use std::alloc::Global;
 /// The options are sound, and the PT_LOAD segments fit into memory and share no byte, as in each file that was read. An error
 /// is the first rule that holds, with its place or number; it is `Memory` where there is no memory. The ends that it tells are
 /// at most 2^64 and below 2^64.
+#[tactic(auto, using(crate::proofs::RefusedEnds::cause_ends))]
 pub fn admit(alloc: Global, file: &ElfFile, options: &Options) -> Result<Test, AdmitError>
     requires sound { AreSoundOptions options.now }
     requires fit { AllFitMemory (loads_of file.now) }

@@ -16,12 +16,12 @@ use crate::words::check_words;
 use elf_types::ElfFile;
 use qed_model::{AdmitError, Options};
 use std::alloc::Global;
-use tests::{CodeRange, code_ranges};
+use tests::{Span, code_ranges};
 
 /// The parts of a file that was admitted.
 #[derive(Drop)]
 pub struct TestParts<'a> {
-    pub ranges: Vec<CodeRange>,
+    pub ranges: Vec<Span>,
     pub code: Vec<Stretch<'a>>,
     pub places: ImagePlaces,
     pub spans: DataSpans,
@@ -40,7 +40,7 @@ pub fn check_rules<'a>(
     check_header(file)?;
     let ranges = code_ranges(alloc, file)?;
     check_shape(file, &ranges)?;
-    let code = code_stretches(alloc, file)?;
+    let code = code_stretches(alloc, file, &ranges)?;
     let places = image_places(file);
     check_code(file, &code, places.base)?;
     let spans = data_spans(alloc, file)?;

@@ -7,14 +7,16 @@ ghost use Rattle.tests.specs.Admission.DataRanges.{rounded, meets_code, is_data,
 ghost use Rattle.tests.specs.Admission.Rules.{is_mixed, segment_range};
 ghost use Rattle.tests.specs.Admission.Refusals.{IsRefusedBy};
 ghost use Rattle.tests.specs.Admission.Places.{image_of};
-ghost use Rattle.test_admission.specs.Spans.{bounds_of, all_bounds, HaveSome, AreSpaced};
+ghost use Rattle.tests.specs.Ranges.{span, spans, AreSpaced};
+ghost use Rattle.test_admission.specs.Spans.{HaveSome};
 ghost use Rattle.test_admission.specs.DataSpans.{code_parts, AreCode, IsDataOf};
 ghost use Rattle.test_admission.specs.Order.{PassesBelow};
 
-use crate::spans::{Span, joined, meets};
+use crate::spans::{joined, meets};
 use elf_types::{ElfFile, Segment};
 use qed_model::AdmitError;
 use std::alloc::{AllocError, Global};
+use tests::Span;
 
 /// The aligned words of code, and the data ranges, each joined and in ascending order.
 #[derive(Drop)]
@@ -26,7 +28,7 @@ pub struct DataSpans {
 
 /// The addresses of a segment.
 fn whole(segment: &Segment) -> Span
-    ensures { bounds_of result ≡ segment_range segment.now }
+    ensures { span result ≡ segment_range segment.now }
 {
     Span {
         start: segment.address,
@@ -36,7 +38,7 @@ fn whole(segment: &Segment) -> Span
 
 /// The addresses of a segment, rounded out to multiples of 8.
 fn rounded(segment: &Segment) -> Span
-    ensures { bounds_of result ≡ rounded segment.now }
+    ensures { span result ≡ rounded segment.now }
 {
     let (address, memory) = (segment.address, segment.memory);
     let end = u128::from(address) + u128::from(memory);
@@ -48,7 +50,7 @@ fn rounded(segment: &Segment) -> Span
 
 /// The segments of the image that are executed, rounded out.
 fn code_parts(alloc: Global, segments: &[Segment]) -> Result<Vec<Span>, AllocError>
-    ensures parts { IfOk result (λ parts. all_bounds parts.items ≡ code_parts (image_segments segments.now)) }
+    ensures parts { IfOk result (λ parts. spans parts.items ≡ code_parts (image_segments segments.now)) }
     ensures some { IfOk result (λ parts. HaveSome parts.items) }
 {
     let mut parts = Vec::new(alloc);
@@ -61,8 +63,9 @@ fn code_parts(alloc: Global, segments: &[Segment]) -> Result<Vec<Span>, AllocErr
 }
 
 /// Whether a segment of the image shares an aligned word of 8 bytes with the code of the image.
+#[tactic(auto, using(crate::proofs::DataLaws::meets_joined))]
 fn meets_code(code: &[Span], segment: &Segment) -> bool
-    requires spaced { AreSpaced code.now }
+    requires spaced { AreSpaced span code.now }
     requires room { 0 < segment.now.memory }
     ensures { (ss : List ElfSegment) → AreCode (image_segments ss) code.now → result ≡ meets_code (image_segments ss) segment.now }
 {
@@ -71,7 +74,7 @@ fn meets_code(code: &[Span], segment: &Segment) -> bool
 
 /// Whether a segment of the image is one of data, given the code of the image.
 fn is_data(code: &[Span], segment: &Segment) -> bool
-    requires spaced { AreSpaced code.now }
+    requires spaced { AreSpaced span code.now }
     requires room { 0 < segment.now.memory }
     ensures { (ss : List ElfSegment) → AreCode (image_segments ss) code.now → result ≡ is_data (image_segments ss) segment.now }
 {
@@ -81,7 +84,7 @@ fn is_data(code: &[Span], segment: &Segment) -> bool
 /// The data segments, rounded out.
 fn data_parts(alloc: Global, segments: &[Segment], code: &[Span]) -> Result<Vec<Span>, AllocError>
     requires { AreCode (image_segments segments.now) code.now }
-    ensures parts { IfOk result (λ parts. all_bounds parts.items ≡ data_parts (image_segments segments.now)) }
+    ensures parts { IfOk result (λ parts. spans parts.items ≡ data_parts (image_segments segments.now)) }
     ensures some { IfOk result (λ parts. HaveSome parts.items) }
 {
     let mut parts = Vec::new(alloc);
@@ -105,8 +108,8 @@ pub fn data_spans(alloc: Global, file: &ElfFile) -> Result<DataSpans, AllocError
 
 /// Whether a segment of the image is not one of data, and has a byte in a data range.
 fn is_mixed(spans: &DataSpans, segment: &Segment) -> bool
-    requires code { AreSpaced spans.now.code.items }
-    requires ranges { AreSpaced spans.now.ranges.items }
+    requires code { AreSpaced span spans.now.code.items }
+    requires ranges { AreSpaced span spans.now.ranges.items }
     ensures { (ss : List ElfSegment) → IsDataOf (image_segments ss) spans.now → result ≡ is_mixed (image_segments ss) segment.now }
 {
     segment.is_in_image() && !is_data(&spans.code, segment) && meets(&spans.ranges, whole(segment))
@@ -122,6 +125,7 @@ fn first_mixed(file: &ElfFile, spans: &DataSpans) -> Option<usize>
 }
 
 /// Tests the rule on segments that share a word with data, behind those on code.
+#[tactic(auto, using(crate::proofs::DataLaws::refused_mixed, crate::proofs::DataLaws::passes_data))]
 pub fn check_data(file: &ElfFile, spans: &DataSpans) -> Result<(), AdmitError>
     requires spans { IsDataOf (image_of file.now) spans.now }
     requires passed { (o : Options) → PassesBelow file.now o 10 }

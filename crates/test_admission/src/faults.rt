@@ -59,14 +59,13 @@ fn first_high(code: &[Stretch<'_>]) -> Option<AdmitError>
     ensures { MatchOption result (first_among rule.Registers (parts_of code.now) ≡ None) (HasHigh (parts_of code.now)) }
 {
     let (address, word) = first_among(code, CodeRule::Registers)?;
-    match high_in(word) {
-        Some(register) => Some(AdmitError::RegisterHalf(address, register)),
-        None => unreachable!(),
-    }
+    let register = high_in(word)?;
+    Some(AdmitError::RegisterHalf(address, register))
 }
 
 /// Tests the rules on code words, behind those on the shape of code. Constants are tested against a base. Where no rule refuses a word,
 /// each is decoded once.
+#[tactic(auto, using(crate::proofs::Faulting::follow_fit, crate::proofs::Faulting::refused_unknown, crate::proofs::Faulting::refused_high, crate::proofs::Faulting::refused_break, crate::proofs::Faulting::refused_far, crate::proofs::Faulting::passes_code, crate::proofs::FirstFault::none_each))]
 pub fn check_code(file: &ElfFile, code: &[Stretch<'_>], base: u64) -> Result<(), AdmitError>
     requires code { AreCodeOf file.now (parts_of code.now) }
     requires base { base ≡ base_of (image_of file.now) }

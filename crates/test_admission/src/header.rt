@@ -17,20 +17,13 @@ fn is_dynamic(segments: &[Segment]) -> bool
     segments.iter().any(|segment| segment.is_dynamic())
 }
 
-/// Whether a segment of the image is both written and executed.
-fn is_writable_code(segment: &Segment) -> bool
-    ensures { result ≡ is_writable_code segment.now }
-{
-    segment.is_in_image() && segment.is_writable() && segment.is_executable()
-}
-
-/// The number of the first such segment.
+/// The number of the first segment of the image that is both written and executed.
 fn first_writable_code(segments: &[Segment]) -> Option<usize>
     ensures { result ≡ position is_writable_code segments.now }
 {
-    segments
-        .iter()
-        .position(|segment| is_writable_code(segment))
+    segments.iter().position(|segment| segment.is_in_image()
+        && segment.is_writable()
+        && segment.is_executable())
 }
 
 /// Tests the first three rules.

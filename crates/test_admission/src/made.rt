@@ -6,47 +6,30 @@ ghost use Rattle.tests.specs.Admission.Test.{AreCodeWords, IsTestOf};
 ghost use Rattle.qed_model.specs.Weave.SoundOptions.{AreSoundOptions};
 ghost use Rattle.tests.specs.Ranges.{spans};
 ghost use Rattle.test_admission.specs.Checked.{IsChecked};
-ghost use Rattle.test_admission.specs.Made.{RangesEnd, SpansEnd};
+ghost use Rattle.test_admission.specs.Made.{AllEnd};
 ghost use Rattle.test_admission.specs.declared.rules.CodeRule.TheVariants as rule;
 ghost use Rattle.test_admission.specs.Faults.{first_among};
 ghost use Rattle.test_admission.specs.Stretches.{parts_of, AreCodeOf};
-ghost use Rattle.test_admission.specs.Spans.{all_bounds};
 
 use crate::check::TestParts;
 use crate::places::distance;
-use crate::spans::Span;
 use crate::stretches::Stretch;
 use crate::words::code_words;
 use elf_types::{ElfFile, Listed, Segment, Segments};
 use qed_model::{CodeWords, Options, Range, Ranges, Test};
 use std::alloc::{AllocError, Global};
-use tests::CodeRange;
+use tests::Span;
 
-/// Code ranges by their ends.
-fn code_list(alloc: Global, ranges: &[CodeRange]) -> Result<Ranges, AllocError>
-    requires { RangesEnd ranges.now }
-    ensures { IfOk result (λ list. map range_of list ≡ spans ranges.now) }
+/// Spans as ranges.
+fn ranges_of(alloc: Global, parts: &[Span]) -> Result<Ranges, AllocError>
+    requires { AllEnd parts.now }
+    ensures { IfOk result (λ list. map range_of list ≡ spans parts.now) }
 {
     let mut list = Vec::new(alloc);
-    for range in ranges {
+    for part in parts {
         list.push(Range {
-            start: range.start,
-            end: range.start + range.size,
-        })?;
-    }
-    Ok(Listed::of(list))
-}
-
-/// Data ranges by their ends.
-fn data_list(alloc: Global, spans: &[Span]) -> Result<Ranges, AllocError>
-    requires { SpansEnd spans.now }
-    ensures { IfOk result (λ list. map range_of list ≡ all_bounds spans.now) }
-{
-    let mut list = Vec::new(alloc);
-    for span in spans {
-        list.push(Range {
-            start: span.start,
-            end: span.end as u64,
+            start: part.start,
+            end: part.end as u64,
         })?;
     }
     Ok(Listed::of(list))
@@ -79,6 +62,7 @@ fn image(alloc: Global, segments: &[Segment]) -> Result<Segments, AllocError>
 }
 
 /// All code words of a file.
+#[tactic(auto, using(crate::proofs::Faulting::follow_fit, crate::proofs::Listing::are_words))]
 fn word_list(alloc: Global, file: &ElfFile, code: &[Stretch<'_>]) -> Result<CodeWords, AllocError>
     requires code { AreCodeOf file.now (parts_of code.now) }
     requires known { first_among rule.Unknown (parts_of code.now) ≡ None }
@@ -89,6 +73,7 @@ fn word_list(alloc: Global, file: &ElfFile, code: &[Stretch<'_>]) -> Result<Code
 }
 
 /// What is told of a file that was admitted.
+#[tactic(auto, using(crate::proofs::Ends::ranges_end, crate::proofs::Ends::spans_end))]
 pub fn make_test(
     alloc: Global,
     file: &ElfFile,
@@ -99,9 +84,9 @@ pub fn make_test(
     requires parts { IsChecked file.now options.now parts.now }
     ensures { IfOk result (IsTestOf file.now options.now) }
 {
-    let ranges = code_list(alloc, &parts.ranges)?;
+    let ranges = ranges_of(alloc, &parts.ranges)?;
     let code = word_list(alloc, file, &parts.code)?;
-    let span = data_list(alloc, &parts.spans.ranges)?;
+    let span = ranges_of(alloc, &parts.spans.ranges)?;
     let segments = image(alloc, file.segments.as_slice())?;
     Ok(Test {
         entry: file.entry,

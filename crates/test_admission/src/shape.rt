@@ -1,18 +1,34 @@
 //! The rules on the entry and on the shape of code.
-ghost use Rattle.std.specs.Prelude.{◌≡◌, position, ◌&&◌, ◌||◌, not, ◌==◌, ◌+◌, MatchResult, OnOk};
+ghost use Rattle.std.specs.Prelude.{◌≡◌, position, ◌&&◌, ◌||◌, not, ◌==◌, ◌+◌, ◌%◌, MatchResult, OnOk};
+ghost use Rattle.std.specs.List.{list_any};
 ghost use Rattle.tests.specs.declared.options.Options.{Options};
 ghost use Rattle.machine.specs.Loading.{load_segments, section_ranges};
-ghost use Rattle.tests.specs.Admission.Terms.{is_cut, is_ragged};
+ghost use Rattle.tests.specs.Admission.Terms.{is_cut, is_ragged, is_in, is_in_any, is_code_address};
 ghost use Rattle.tests.specs.Admission.CodeWords.{ranges_of, loads_of};
 ghost use Rattle.tests.specs.Admission.Rules.{is_misshapen_section, is_misshapen_segment, is_empty};
 ghost use Rattle.tests.specs.Admission.Refusals.{IsRefusedBy};
-ghost use Rattle.tests.specs.Ranges.{spans};
+ghost use Rattle.tests.specs.Ranges.{span, spans};
 ghost use Rattle.test_admission.specs.Order.{PassesBelow};
 ghost use Rattle.test_admission.specs.Shape.{IsShaped, is_ragged_code};
 
 use elf_types::{ElfFile, Section, Segment};
 use qed_model::AdmitError;
-use tests::{CodeRange, is_code_address, is_cut_by_any, lies_in_any};
+use tests::{Span, is_cut_by_any, lies_in_any};
+
+/// Whether an address is in one of the ranges.
+fn is_in_any(ranges: &[Span], address: u64) -> bool
+    ensures { result ≡ is_in_any (spans ranges.now) address }
+{
+    let mut ends = ranges.iter().map(|range| (range.start, range.end));
+    ends.any(|range| range.0 <= address && u128::from(address) < range.1)
+}
+
+/// Whether an address is a multiple of 4 in one of the ranges.
+fn is_code(ranges: &[Span], address: u64) -> bool
+    ensures { result ≡ is_code_address (spans ranges.now) address }
+{
+    address % 4 == 0 && is_in_any(ranges, address)
+}
 
 /// Whether the start or the size of a range is not a multiple of 4.
 fn is_ragged(start: u64, size: u64) -> bool
@@ -72,13 +88,14 @@ fn first_misshapen_segment(file: &ElfFile) -> Option<usize>
 }
 
 /// Tests the rules on the entry and on the shape of code, behind the first three.
-pub fn check_shape(file: &ElfFile, ranges: &[CodeRange]) -> Result<(), AdmitError>
+#[tactic(auto, using(crate::proofs::ShapeLaws::refused_entry, crate::proofs::ShapeLaws::refused_section, crate::proofs::ShapeLaws::refused_segment, crate::proofs::ShapeLaws::passes_shape, crate::proofs::ShapeLaws::shaped))]
+pub fn check_shape(file: &ElfFile, ranges: &[Span]) -> Result<(), AdmitError>
     requires ranges { spans ranges.now ≡ ranges_of file.now }
     requires passed { (o : Options) → PassesBelow file.now o 4 }
     ensures order { MatchResult result (λ _. (o : Options) → PassesBelow file.now o 6) (λ e. (o : Options) → IsRefusedBy file.now o e) }
     ensures shaped { OnOk result (IsShaped file.now) }
 {
-    if !is_code_address(ranges, file.entry) {
+    if !is_code(ranges, file.entry) {
         return Err(AdmitError::NoCode(file.entry));
     }
     if let Some(number) = first_misshapen_section(file) {

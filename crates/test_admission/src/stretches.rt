@@ -1,15 +1,17 @@
 //! The code of a file in stretches: each in one segment, in ascending order, none with an address of another.
-ghost use Rattle.std.specs.Prelude.{◌≡◌, ◌+◌, ◌-◌, ◌^◌, ◌<◌, ◌≤◌, ◌++◌, true, false, Contains, map, IfOk, MatchOption, All};
-ghost use Rattle.tests.specs.Admission.Rules.{section_range};
-ghost use Rattle.machine.specs.Loading.{load_segment, load_segments, lies_in_code, lies_in_any, section_ranges, segment_ranges};
+ghost use Rattle.std.specs.Prelude.{◌≡◌, ◌+◌, ◌-◌, ◌^◌, ◌<◌, ◌≤◌, ◌++◌, true, false, Contains, map, filter, drop, IfOk, MatchOption, All};
+ghost use Rattle.std.specs.List.{list_any};
+ghost use Rattle.machine.specs.Loading.{load_segment, load_segments};
+ghost use Rattle.tests.specs.Ranges.{span, spans};
 ghost use Rattle.tests.specs.Admission.CodeWords.{loads_of, ranges_of};
 ghost use Rattle.test_admission.specs.Read.{AreRead};
 ghost use Rattle.test_admission.specs.Shape.{IsShaped};
-ghost use Rattle.test_admission.specs.Stretches.{part_of, parts_of, span_of, rest_of, Reads, IsRange, has_code, whole_part, whole_parts, trimmed, cut, AreCodeOf};
+ghost use Rattle.test_admission.specs.Spans.{HaveSome};
+ghost use Rattle.test_admission.specs.Stretches.{part_of, parts_of, span_of, Reads, holds_code, is_held, trimmed, cut, AreCodeOf};
 
-use elf_types::{ElfFile, Section, Segment};
+use elf_types::{ElfFile, Segment};
 use std::alloc::{AllocError, Global};
-use tests::code_segment;
+use tests::{Span, rest_of};
 
 /// Code in one segment.
 #[derive(Clone, Copy)]
@@ -22,24 +24,19 @@ pub struct Stretch<'a> {
     pub bytes: &'a [u8],
 }
 
-/// Bytes from one of them on.
-fn rest_of(bytes: &[u8], place: u64) -> &[u8]
-    ensures { result.now ≡ rest_of place bytes.now }
-{
-    let skipped = (place as usize).min(bytes.len());
-    &bytes[skipped..]
-}
-
 impl<'a> Stretch<'a> {
-    /// So many bytes of a segment from an address on.
-    fn of(segment: &'a Segment, start: u64, size: u64) -> Stretch<'a>
-        requires { segment.now.address ≤ start }
-        ensures { part_of result ≡ record { start = start; size = size; bytes = rest_of (start - segment.now.address) segment.now.bytes } }
+    /// A range that lies in a segment.
+    fn of(segment: &'a Segment, range: Span) -> Stretch<'a>
+        requires some { range.start < range.end }
+        requires from { segment.now.address ≤ range.start }
+        requires to { range.end ≤ segment.now.address + segment.now.memory }
+        ensures { part_of result ≡ record { start = range.start; size = range.end - range.start; bytes = drop (range.start - segment.now.address) segment.now.bytes } }
     {
+        let (address, _memory) = (segment.address, segment.memory);
         Stretch {
-            start,
-            size,
-            bytes: rest_of(segment.bytes.as_slice(), start - segment.address),
+            start: range.start,
+            size: (range.end - u128::from(range.start)) as u64,
+            bytes: rest_of(segment.bytes.as_slice(), range.start - address),
         }
     }
 
@@ -69,87 +66,54 @@ impl<'a> Stretch<'a> {
     }
 }
 
-/// The addresses of a section, where it is a code range.
-fn stretch_of_section<'a>(segments: &'a [Segment], section: &Section) -> Option<Stretch<'a>>
-    requires { AreRead (load_segments segments.now) }
-    ensures { MatchOption result (IsRange (load_segments segments.now) section.now false) (λ part. IsRange (load_segments segments.now) section.now true × (span_of (part_of part) ≡ section_range section.now) × Reads (load_segments segments.now) (part_of part)) }
+/// Whether a segment is executable, and a range lies in it.
+fn holds(segment: &Segment, range: Span) -> bool
+    ensures { result ≡ holds_code (span range) (load_segment segment.now) }
 {
-    if !section.is_code() {
-        return None;
-    }
-    let segment = code_segment(section, segments)?;
-    Some(Stretch::of(segment, section.address, section.size))
+    segment.is_executable() && segment.address <= range.start && range.end <= segment.end()
 }
 
-/// The addresses of a segment, where it is executable and has bytes in memory.
-fn stretch_of_segment(segment: &Segment) -> Option<Stretch<'_>>
-    ensures { MatchOption result (has_code segment.now ≡ false) (λ part. (has_code segment.now ≡ true) × (part_of part ≡ whole_part segment.now)) }
+/// The first such segment of type PT_LOAD.
+fn home<'a>(segments: &'a [Segment], range: Span) -> Option<&'a Segment>
+    ensures { MatchOption result (is_held (load_segments segments.now) (span range) ≡ false) (λ s. (is_held (load_segments segments.now) (span range) ≡ true) × Contains segments.now s.now × (s.now.kind ≡ 1) × (holds_code (span range) (load_segment s.now) ≡ true)) }
 {
-    if segment.is_load() && segment.is_executable() && segment.memory > 0 {
-        Some(Stretch::of(segment, segment.address, segment.memory))
-    } else {
-        None
+    for segment in segments {
+        if segment.is_load() && holds(segment, range) {
+            return Some(segment);
+        }
     }
+    None
 }
 
-/// The sections of code that lie wholly inside an executable segment.
-fn stretches_of_sections<'a>(
+/// A range with the bytes that its segment has.
+#[tactic(auto, using(machine::proofs::Lemmas::among_of, crate::proofs::Reading::held_from, crate::proofs::Reading::reads_of))]
+fn stretch_of<'a>(segments: &'a [Segment], range: Span) -> Option<Stretch<'a>>
+    requires read { AreRead (load_segments segments.now) }
+    requires some { range.start < range.end }
+    ensures { MatchOption result (is_held (load_segments segments.now) (span range) ≡ false) (λ part. (is_held (load_segments segments.now) (span range) ≡ true) × (span_of (part_of part) ≡ span range) × Reads (load_segments segments.now) (part_of part)) }
+{
+    let segment = home(segments, range)?;
+    Some(Stretch::of(segment, range))
+}
+
+/// The ranges that lie in segments of code, each with its bytes.
+fn stretches_of<'a>(
     alloc: Global,
     segments: &'a [Segment],
-    sections: &[Section],
+    ranges: &[Span],
 ) -> Result<Vec<Stretch<'a>>, AllocError>
-    requires { AreRead (load_segments segments.now) }
-    ensures spans { IfOk result (λ parts. map span_of (parts_of parts.items) ≡ section_ranges (load_segments segments.now) sections.now) }
+    requires read { AreRead (load_segments segments.now) }
+    requires some { HaveSome ranges.now }
+    ensures same { IfOk result (λ parts. map span_of (parts_of parts.items) ≡ filter (is_held (load_segments segments.now)) (spans ranges.now)) }
     ensures read { IfOk result (λ parts. All (Reads (load_segments segments.now)) (parts_of parts.items)) }
 {
     let mut parts = Vec::new(alloc);
-    for section in sections {
-        if let Some(part) = stretch_of_section(segments, section) {
+    for range in ranges {
+        if let Some(part) = stretch_of(segments, *range) {
             parts.push(part)?;
         }
     }
     Ok(parts)
-}
-
-/// The executable segments of type PT_LOAD that have bytes in memory.
-fn executable_segments(alloc: Global, segments: &[Segment]) -> Result<Vec<Stretch<'_>>, AllocError>
-    ensures { IfOk result (λ parts. parts_of parts.items ≡ whole_parts segments.now) }
-{
-    let mut parts = Vec::new(alloc);
-    for segment in segments {
-        if let Some(part) = stretch_of_segment(segment) {
-            parts.push(part)?;
-        }
-    }
-    Ok(parts)
-}
-
-/// The same, told by their addresses and their bytes.
-fn stretches_of_segments(
-    alloc: Global,
-    segments: &[Segment],
-) -> Result<Vec<Stretch<'_>>, AllocError>
-    requires { AreRead (load_segments segments.now) }
-    ensures spans { IfOk result (λ parts. map span_of (parts_of parts.items) ≡ segment_ranges (load_segments segments.now)) }
-    ensures read { IfOk result (λ parts. All (Reads (load_segments segments.now)) (parts_of parts.items)) }
-{
-    let parts = executable_segments(alloc, segments)?;
-    Ok(parts)
-}
-
-/// The code ranges of a file, each with its bytes.
-fn ranges(alloc: Global, file: &ElfFile) -> Result<Vec<Stretch<'_>>, AllocError>
-    requires { AreRead (loads_of file.now) }
-    ensures spans { IfOk result (λ parts. map span_of (parts_of parts.items) ≡ ranges_of file.now) }
-    ensures read { IfOk result (λ parts. All (Reads (loads_of file.now)) (parts_of parts.items)) }
-{
-    let segments = file.segments.as_slice();
-    let found = stretches_of_sections(alloc, segments, file.sections.as_slice())?;
-    if !found.is_empty() {
-        return Ok(found);
-    }
-    let whole = stretches_of_segments(alloc, segments)?;
-    Ok(whole)
 }
 
 /// Parts in the order of their starts, without what an earlier one has.
@@ -169,13 +133,19 @@ fn cut<'a>(alloc: Global, parts: &[Stretch<'a>]) -> Result<Vec<Stretch<'a>>, All
     Ok(pieces)
 }
 
-/// All code of a file, in ascending order.
-pub fn code_stretches(alloc: Global, file: &ElfFile) -> Result<Vec<Stretch<'_>>, AllocError>
+/// All code of a file with these code ranges, in ascending order.
+#[tactic(auto, using(crate::proofs::Cutting::have_some, crate::proofs::Cutting::all_held, crate::proofs::Cutting::ranges_fit, crate::proofs::Cutting::code_of))]
+pub fn code_stretches<'a>(
+    alloc: Global,
+    file: &'a ElfFile,
+    ranges: &[Span],
+) -> Result<Vec<Stretch<'a>>, AllocError>
     requires read { AreRead (loads_of file.now) }
     requires shaped { IsShaped file.now }
+    requires ranges { spans ranges.now ≡ ranges_of file.now }
     ensures { IfOk result (λ code. AreCodeOf file.now (parts_of code.items)) }
 {
-    let mut parts = ranges(alloc, file)?;
+    let mut parts = stretches_of(alloc, file.segments.as_slice(), ranges)?;
     parts.sort_unstable_by_key(|part| part.start);
     let pieces = cut(alloc, &parts)?;
     Ok(pieces)

@@ -12,6 +12,7 @@ use elf_types::ElfFile;
 use qed_model::limits::MAX_CODE_WORDS;
 use qed_model::{AdmitError, CodeWord, Options};
 use rv_decode::decode;
+use rv_isa::Ins;
 use std::alloc::{AllocError, Global};
 use tests::word_in;
 
@@ -28,6 +29,7 @@ fn word_count(code: &[Stretch<'_>]) -> u64
 }
 
 /// Tests the limit on code words, behind that on the image. Each address counts once.
+#[tactic(auto, using(crate::proofs::Listing::few_words, crate::proofs::Listing::refused_words, crate::proofs::Listing::passes_words))]
 pub fn check_words(
     file: &ElfFile,
     options: &Options,
@@ -44,7 +46,7 @@ pub fn check_words(
     Ok(())
 }
 
-/// Appends the words of a stretch.
+/// Appends the words of a stretch. Each is an instruction.
 fn push_words(words: &mut Vec<CodeWord>, stretch: &Stretch<'_>) -> Result<(), AllocError>
     requires fits { stretch.now.start + stretch.now.size ≤ 2 ^ 64 }
     requires known { first_in rule.Unknown (part_of stretch.now) ≡ None }
@@ -53,13 +55,10 @@ fn push_words(words: &mut Vec<CodeWord>, stretch: &Stretch<'_>) -> Result<(), Al
 {
     for number in 0..stretch.size / 4 {
         let word = word_in(stretch.bytes, (4 * number) as usize);
-        let Some(ins) = decode(word) else {
-            unreachable!();
-        };
         words.push(CodeWord {
             at: stretch.start + 4 * number,
             word,
-            ins,
+            ins: decode(word).unwrap_or(Ins::nop()),
         })?;
     }
     Ok(())

@@ -1,4 +1,3 @@
-pub mod Bodies
 pub mod Functions
 pub mod Sizes
 pub mod Writable

@@ -3,10 +3,6 @@ use Rattle.std.proofs.Common.{◌≡◌, ℕ, zero, suc, ◌+◌, sym, ap, ◌�
 use Rattle.rand_pcg.specs.Lcg.{Lcg}
 use Rattle.test_gen.specs.Random.{next, after}
 
--- behind n words, and then one more
-pub after-one : (n : ℕ) (g : Lcg) → after (n + 1) g ≡ next (after n g)
-after-one n g = let e : n + 1 ≡ suc n = omega arith in ap (λ k. after k g) e
-
 -- behind n words, and then m more
 pub after-more : (m n : ℕ) (g : Lcg) → after m (after n g) ≡ after (n + m) g
 after-more zero n g = let e : n + zero ≡ n = omega arith in sym (ap (λ k. after k g) e)

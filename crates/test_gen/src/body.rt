@@ -18,38 +18,24 @@ fn register_from(place: u32, word: u64) -> u8
     BODY_REGISTERS[((word >> place) % 7) as usize]
 }
 
-/// The immediate of an ADDI, from -128 to 127.
-fn addend(number: u64) -> i64
-    requires { number < 256 }
-    ensures { result ≡ pos number -ℤ pos 128 }
-{
-    number as i64 - 128
-}
-
-/// How far a data word is behind the first, in bytes.
-fn data_offset(number: u64) -> i64
-    requires { number < 256 }
-    ensures { result ≡ pos (8 * number) }
-{
-    (8 * number) as i64
-}
-
 /// The body instruction of a random word: its low bits choose the form, others the registers and the number.
+#[tactic(auto, unfolding(crate::specs::Code::body_instruction))]
 pub fn body_instruction(word: u64) -> Ins
     ensures { result ≡ body_instruction_of word }
 {
     let rd = register_from(8, word);
     let rs1 = register_from(16, word);
     let rs2 = register_from(24, word);
-    let number = (word >> 32) % 256;
-    match word % 8 {
-        0 => instruction(Kind::Add, rd, rs1, rs2, 0),
-        1 => instruction(Kind::Sub, rd, rs1, rs2, 0),
-        2 => instruction(Kind::Xor, rd, rs1, rs2, 0),
-        3 => instruction(Kind::Mul, rd, rs1, rs2, 0),
-        4 => instruction(Kind::Addi, rd, rs1, 0, addend(number)),
-        5 => instruction(Kind::Divu, rd, rs1, rs2, 0),
-        6 => instruction(Kind::Ld, rd, 2, 0, data_offset(number)),
-        _ => instruction(Kind::Sd, 0, 2, rs2, data_offset(number)),
-    }
+    let number = ((word >> 32) % 256) as i64;
+    let forms = [
+        instruction(Kind::Add, rd, rs1, rs2, 0),
+        instruction(Kind::Sub, rd, rs1, rs2, 0),
+        instruction(Kind::Xor, rd, rs1, rs2, 0),
+        instruction(Kind::Mul, rd, rs1, rs2, 0),
+        instruction(Kind::Addi, rd, rs1, 0, number - 128),
+        instruction(Kind::Divu, rd, rs1, rs2, 0),
+        instruction(Kind::Ld, rd, 2, 0, 8 * number),
+        instruction(Kind::Sd, 0, 2, rs2, 8 * number),
+    ];
+    forms[(word % 8) as usize]
 }

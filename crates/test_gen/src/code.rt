@@ -28,6 +28,7 @@ pub fn function_count(size: u64) -> u64
 }
 
 /// Appends a function of the next random words.
+#[tactic(auto, using(machine::proofs::Lemmas::each_front, machine::proofs::Lemmas::push_after))]
 fn push_function(code: &mut Vec<Ins>, rng: &mut Pcg64) -> Result<(), AllocError>
     ensures code { OnOk result (code.new.items ≡ code.old.items ++ (each 32 (λ k. body_instruction_of (drawn_of (after k rng.old))) ++ return ∷ [])) }
     ensures rng { OnOk result (rng.new ≡ after 32 rng.old) }
@@ -62,6 +63,7 @@ fn main_code(functions: u64) -> [Ins; 12]
 }
 
 /// The code of so many functions, with `main` in front.
+#[tactic(auto, using(crate::proofs::Functions::function_from, crate::proofs::Functions::none_yet, crate::proofs::Functions::one_more), unfolding(crate::specs::Code::code))]
 pub fn code(alloc: Global, seed: u64, functions: u64) -> Result<Vec<Ins>, AllocError>
     requires { functions ≤ 1875 }
     ensures { IfOk result (λ code. code.items ≡ code_of seed functions) }
@@ -74,22 +76,14 @@ pub fn code(alloc: Global, seed: u64, functions: u64) -> Result<Vec<Ins>, AllocE
     Ok(code)
 }
 
-/// The word of an instruction. Each of a generated test has one.
-#[tactic(auto, unfolding(crate::specs::Generated::generated_word))]
-fn word_of(ins: &Ins) -> u32
-    ensures { result ≡ word_of_instruction ins.now }
-{
-    encode(ins).unwrap_or(0)
-}
-
-/// The bytes of the words of instructions, each the lowest first.
-#[tactic(auto, unfolding(machine::specs::Numbers::number_bytes))]
+/// The bytes of the words of instructions, each the lowest first. Each instruction of a generated test has a word.
+#[tactic(auto, unfolding(machine::specs::Numbers::number_bytes, crate::specs::Generated::generated_word))]
 pub fn words_bytes(alloc: Global, code: &[Ins]) -> Result<Vec<u8>, AllocError>
     ensures { IfOk result (λ bytes. bytes.items ≡ bytes_of (map word_of_instruction code.now)) }
 {
     let mut bytes = Vec::new(alloc);
     for ins in code {
-        bytes.extend_from_slice(&word_of(ins).to_le_bytes())?;
+        bytes.extend_from_slice(&encode(ins).unwrap_or(0).to_le_bytes())?;
     }
     Ok(bytes)
 }

@@ -69,6 +69,7 @@ fn function_symbol(alloc: Global, number: u64) -> Result<Symbol, AllocError>
 }
 
 /// The symbols of `main` and of so many functions.
+#[tactic(auto, using(machine::proofs::Lemmas::each_none, machine::proofs::Lemmas::push_after))]
 fn symbols(alloc: Global, functions: u64) -> Result<Vec<Symbol>, AllocError>
     requires { functions ≤ 1875 }
     ensures { IfOk result (λ symbols. symbols.items ≡ symbols_of functions) }

@@ -1,14 +1,13 @@
 -- The data ranges: what joins ranges gives the ranges that the sentences on them describe, and there is one list of such ranges.
-use Rattle.std.proofs.Common.{◌≡◌, ◌⊎◌, inl, inr, ⊎_elim, ℕ, zero, suc, ◌+◌, ◌%◌, ◌<◌, ◌≤◌, min, max, Bool, true, false, cond, ◌&&◌, ◌||◌, List, [], ◌∷◌, length, get_or, refl, sym, ap, ◌∙◌, subst, arith}
+use Rattle.std.proofs.Common.{◌≡◌, ◌⊎◌, inl, inr, ⊎_elim, ℕ, suc, ◌+◌, ◌%◌, ◌<◌, ◌≤◌, min, max, Bool, true, false, cond, ◌&&◌, ◌||◌, List, [], ◌∷◌, get_or, refl, sym, ap, ◌∙◌, subst, arith}
 use Rattle.std.specs.Prelude.{nat_lt, nat_le, All, AllPairs, map, filter}
 use Rattle.std.proofs.Math.Bool.{or_assoc}
 use Rattle.std.proofs.lemmas.Bool.Decides.{nat_tests}
 use Rattle.std.proofs.lemmas.Bool.{leb-true, ltb-true, ltb-false, and_parts, and_from, le-leb, lt-ltb, false≢true}
-use Rattle.std.proofs.lemmas.List.Elements.{All-nil, All-cons}
 use Rattle.std.proofs.lemmas.List.{get_or_default}
 use Rattle.tests.specs.Admission.DataRanges.{Segment, rounded, data_segments, data_parts, is_in, is_in_any, AreJoined, join, joined, data_ranges}
-use Rattle.machine.proofs.Lemmas.{passing, any_passing, none_passing}
-use Rattle.machine.specs.Members.{Among}
+use Rattle.machine.proofs.Lemmas.{passing, any_passing, none_passing, among_every, every_all, pairs_all}
+use Rattle.machine.specs.Members.{Among, Pairs}
 
 -- ---- ranges that ascend with gaps
 -- the first begins at `low` or behind it, each has some address, and each next one leaves a gap
@@ -95,7 +94,7 @@ in_from r q a b = and_from (nat_le r.0 q) (nat_lt q r.1) (le-leb r.0 q a) (lt-lt
 pub in_parts : (r : ℕ × ℕ) (q : ℕ) → is_in r q ≡ true → (r.0 ≤ q) × (q < r.1)
 in_parts r q h = let p = and_parts (nat_le r.0 q) (nat_lt q r.1) h in (leb-true r.0 q p.0, ltb-true q r.1 p.1)
 
-in_not : (r : ℕ × ℕ) (q : ℕ) → (q < r.0) ⊎ (r.1 ≤ q) → is_in r q ≡ false
+pub in_not : (r : ℕ × ℕ) (q : ℕ) → (q < r.0) ⊎ (r.1 ≤ q) → is_in r q ≡ false
 in_not r q h = by (is_in r q) refl where
   by : (b : Bool) → is_in r q ≡ b → is_in r q ≡ false
   by true e = let p = in_parts r q e in absurd (⊎_elim (λ x. omega (arith, x, p.0)) (λ x. omega (arith, x, p.1)) h)
@@ -131,26 +130,14 @@ one_range low (x ∷ rs) r t q s m k a b =
 
 -- ---- the sentences
 some-spaced : (low : ℕ) (rs : List (ℕ × ℕ)) → Spaced low rs → All (λ r. r.0 < r.1) rs
-some-spaced low [] s = All-nil (λ r. r.0 < r.1)
-some-spaced low (r ∷ rs) s = All-cons (λ r. r.0 < r.1) r rs s.1 (some-spaced (r.1 + 1) rs s.2)
+some-spaced low rs s = every_all (λ r. r.0 < r.1) rs (among_every (λ r. r.0 < r.1) rs (λ r m. (spaced_from low rs r s m).1))
 
-abbrev AllFrom : ℕ → List (ℕ × ℕ) → Type 0
-AllFrom low rs = All (λ (r : ℕ × ℕ). low ≤ r.0) rs
-
-from-spaced : (low l : ℕ) (rs : List (ℕ × ℕ)) → l ≤ low → Spaced low rs → AllFrom l rs
-from-spaced low l [] h s = All-nil (λ r. l ≤ r.0)
-from-spaced low l (r ∷ rs) h s = All-cons (λ r. l ≤ r.0) r rs (omega (arith, h, s.0)) (from-spaced (r.1 + 1) l rs (omega (arith, h, s.0, s.1)) s.2)
-
-gap_pair :
-    (r : ℕ × ℕ) (rs : List (ℕ × ℕ)) → AllFrom (r.1 + 1) rs → AllPairs (λ r t. r.1 < t.0) rs → (i j : ℕ) (d : ℕ × ℕ) → i < j → j < length (r ∷ rs)
-    → (get_or (r ∷ rs) i d).1 < (get_or (r ∷ rs) j d).0
-gap_pair r rs h rest i zero d lt le = absurd (omega (arith, lt))
-gap_pair r rs h rest zero (suc j) d lt le = let p = h j d (omega (arith, le)) in omega (arith, p)
-gap_pair r rs h rest (suc i) (suc j) d lt le = rest i j d (omega (arith, lt)) (omega (arith, le))
+gap_pairs : (low : ℕ) (rs : List (ℕ × ℕ)) → Spaced low rs → Pairs (λ r t. r.1 < t.0) rs
+gap_pairs low [] s = tt
+gap_pairs low (r ∷ rs) s = (among_every (λ t. r.1 < t.0) rs (λ t m. let h = (spaced_from (r.1 + 1) rs t s.2 m).0 in omega (arith, h)), gap_pairs (r.1 + 1) rs s.2)
 
 gaps-spaced : (low : ℕ) (rs : List (ℕ × ℕ)) → Spaced low rs → AllPairs (λ r t. r.1 < t.0) rs
-gaps-spaced low [] s = λ i j d lt le. absurd (omega (arith, le))
-gaps-spaced low (r ∷ rs) s = gap_pair r rs (from-spaced (r.1 + 1) (r.1 + 1) rs (omega arith) s.2) (gaps-spaced (r.1 + 1) rs s.2)
+gaps-spaced low rs s = pairs_all (λ r t. r.1 < t.0) rs (gap_pairs low rs s)
 
 -- so joined ranges are what the sentences say
 pub are_joined : (parts : List (ℕ × ℕ)) → AllSome parts → AreJoined parts (joined parts)
@@ -160,7 +147,7 @@ are_joined parts h =
 
 -- ---- there is one such list
 -- the sentences give the form
-spaced_rest : (low : ℕ) (rs : List (ℕ × ℕ)) → AllFrom low rs → All (λ r. r.0 < r.1) rs → AllPairs (λ r t. r.1 < t.0) rs → Spaced low rs
+spaced_rest : (low : ℕ) (rs : List (ℕ × ℕ)) → All (λ r. low ≤ r.0) rs → All (λ r. r.0 < r.1) rs → AllPairs (λ r t. r.1 < t.0) rs → Spaced low rs
 spaced_rest low [] f s g = tt
 spaced_rest low (r ∷ rs) f s g = (
   f 0 r (omega arith),

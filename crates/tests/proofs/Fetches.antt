@@ -1,15 +1,15 @@
 -- What a machine fetches of an admitted test is the instruction at a code address.
-use Rattle.std.proofs.Common.{◌≡◌, inl, inr, ⊎_elim, ℕ, ◌+◌, ◌-◌, ◌%◌, ◌<◌, ◌≤◌, Bool, true, false, cond, not, ◌&&◌, ◌||◌, List, [], ◌∷◌, Some, None, refl, sym, ap, ◌∙◌, subst, arith}
+use Rattle.std.proofs.Common.{◌≡◌, inl, inr, ⊎_elim, ℕ, ◌+◌, ◌-◌, ◌/◌, ◌%◌, ◌<◌, ◌≤◌, Bool, true, false, cond, not, ◌&&◌, ◌||◌, List, [], ◌∷◌, Some, None, refl, sym, ap, ◌∙◌, subst, arith}
 use Rattle.std.specs.Prelude.{nat_lt, nat_le, ◌==◌, slice_get, if◌then◌else◌}
 use Rattle.std.specs.List.{list_any}
-use Rattle.std.proofs.lemmas.Bool.{and_parts, and_from, or_cases, eqb-true, eq-eqb, leb-true, le-leb, ltb-true, lt-ltb, false≢true, or_left, or_right}
+use Rattle.std.proofs.lemmas.Bool.{and_parts, and_from, or_cases, eqb-true, eq-eqb, leb-true, le-leb, ltb-true, lt-ltb, false≢true, or_left, or_right, or_parts}
 use Rattle.elf_types.specs.declared.file.Section.{Section}
 use Rattle.machine.specs.Table.{Ins, decode_of}
 use Rattle.machine.specs.Memory.{get, allows, wrap, number, grants}
 use Rattle.machine.specs.Step.{Fetched, Refused, Known, known_or, in_range, fetched_at}
 use Rattle.machine.specs.Program.{LoadSegment, memory_of}
 use Rattle.machine.specs.Loading.{is_code_section, lies_in_code, lies_in_any, section_ranges, segment_ranges, first_some}
-use Rattle.tests.specs.Admission.Terms.{is_in_image, is_cut, is_ragged}
+use Rattle.tests.specs.Admission.Terms.{is_cut, is_ragged}
 use Rattle.machine.specs.Cells.{has, cell_at, cell_among}
 use Rattle.tests.specs.Admission.CodeWords.{ElfFile, loads_of, ranges_of, is_code, word_at, instruction_at}
 use Rattle.tests.specs.Admission.DataRanges.{is_executed}
@@ -66,6 +66,7 @@ of_segment (l ∷ ls) r m = segment_step l ls r (of_segment ls r) (l.flags.execu
 
 -- ---- the segment around it
 pub record Around (ls : List LoadSegment) (r : ℕ × ℕ) : Type 0 where
+  pub some : r.0 < r.1
   pub segment : LoadSegment
   pub among : Among segment ls
   pub executes : segment.flags.execute ≡ true
@@ -73,17 +74,17 @@ pub record Around (ls : List LoadSegment) (r : ℕ × ℕ) : Type 0 where
   pub to : r.1 ≤ segment.address + segment.size
 
 around_later : (l : LoadSegment) (ls : List LoadSegment) (r : ℕ × ℕ) → Around ls r → Around (l ∷ ls) r
-around_later l ls r a = record { segment = a.segment; among = inr a.among; executes = a.executes; from = a.from; to = a.to }
+around_later l ls r a = record { some = a.some; segment = a.segment; among = inr a.among; executes = a.executes; from = a.from; to = a.to }
 
-around_section : (ls : List LoadSegment) (x : Section) → lies_in_any x ls ≡ true → Around ls (section_range x)
-around_section [] x e = absurd (false≢true e)
-around_section (l ∷ ls) x e =
+around_section : (ls : List LoadSegment) (x : Section) → 0 < x.size → lies_in_any x ls ≡ true → Around ls (section_range x)
+around_section [] x room e = absurd (false≢true e)
+around_section (l ∷ ls) x room e =
     ⊎_elim
     (λ h.
     let p = and_parts l.flags.execute (nat_le l.address x.address && nat_le (x.address + x.size) (l.address + l.size)) h in
     let q = and_parts (nat_le l.address x.address) (nat_le (x.address + x.size) (l.address + l.size)) p.1 in
-    record { segment = l; among = inl refl; executes = p.0; from = leb-true l.address x.address q.0; to = leb-true (x.address + x.size) (l.address + l.size) q.1 })
-    (λ h. around_later l ls (section_range x) (around_section ls x h))
+    record { some = omega (arith, room); segment = l; among = inl refl; executes = p.0; from = leb-true l.address x.address q.0; to = leb-true (x.address + x.size) (l.address + l.size) q.1 })
+    (λ h. around_later l ls (section_range x) (around_section ls x room h))
     (or_cases (lies_in_code x l) (lies_in_any x ls) e)
 
 -- ---- no code range is ragged
@@ -94,30 +95,12 @@ even_parts r e = by (r.0 % 4 == 0) ((r.1 - r.0) % 4 == 0) refl refl e where
   by true false x y h = absurd (false≢true (sym h))
   by false b x y h = absurd (false≢true (sym h))
 
-last_false : (a b c : Bool) → a ≡ true → b ≡ true → (a && (b && c)) ≡ false → c ≡ false
-last_false true true c x y e = e
-last_false true false c x y e = absurd (false≢true y)
-last_false false b c x y e = absurd (false≢true x)
-
-second_false : (a b : Bool) → (a || b) ≡ false → b ≡ false
-second_false true b e = absurd (false≢true (sym e))
-second_false false b e = e
-
 -- a code address is on the grain
 pub code_grain : (f : ElfFile) (a : ℕ) → is_code f a ≡ true → a % 4 ≡ 0
 code_grain f a e = eqb-true (a % 4) 0 (and_parts (a % 4 == 0) _ e).0
 
 pub none_passes : {A : Type 0} (test : A → Bool) (x : A) (xs : List A) → ((i : ℕ) → passes_at test (slice_get xs i) ≡ false) → Among x xs → test x ≡ false
 none_passes test x xs h m = let p = place_of x xs m in sym (ap (passes_at test) p.stands) ∙ h p.place
-
-empty_is : (rs : List (ℕ × ℕ)) → rs ≡ [] → is_empty rs ≡ true
-empty_is rs e = ap is_empty e
-
-four : (a b c d : Bool) → a ≡ true → b ≡ true → c ≡ true → (a && (b && (c && d))) ≡ false → d ≡ false
-four true true true d x y z e = e
-four true true false d x y z e = absurd (false≢true z)
-four true false c d x y z e = absurd (false≢true y)
-four false b c d x y z e = absurd (false≢true x)
 
 -- what is known of the code of an admitted test
 pub record IsShapely (f : ElfFile) : Type 0 where
@@ -162,34 +145,40 @@ tests_passed true true false x i e = absurd (cc)
 tests_passed true false g x i e = absurd (cc)
 tests_passed false b g x i e = absurd (cc)
 
-module _ (f : ElfFile) (shape : IsShapely f) where
+module _ (f : ElfFile) (sections : (i : ℕ) → passes_at (is_misshapen_section (loads_of f)) (slice_get f.sections i) ≡ false)
+    (segments : (i : ℕ) → passes_at (is_misshapen_segment f) (slice_get f.segments i) ≡ false) where
   -- a range of sections is in a segment, and even
   in_sections : (r : ℕ × ℕ) → Among r (section_ranges (loads_of f) f.sections) → Around (loads_of f) r × (is_ragged r ≡ false)
   in_sections r m =
       let o = of_section (loads_of f) f.sections r m in
-      let good = none_passes (is_misshapen_section (loads_of f)) o.section f.sections shape.sections o.among in
-      let even = last_false (is_code_section o.section) (lies_in_any o.section (loads_of f)) (is_ragged (section_range o.section)) o.code o.lies (second_false (is_cut (loads_of f) o.section) _ good) in
-      (subst (Around (loads_of f)) (sym o.is) (around_section (loads_of f) o.section o.lies), ap is_ragged o.is ∙ even)
+      let room = ltb-true 0 o.section.size (and_parts (o.section.flags / 4 % 2 == 1) (nat_lt 0 o.section.size) (and_parts (o.section.flags / 2 % 2 == 1) _ o.code).1).1 in
+      let good = none_passes (is_misshapen_section (loads_of f)) o.section f.sections sections o.among in
+      let even : is_ragged (section_range o.section) ≡ false = rw (o.code, o.lies) at (or_parts (is_cut (loads_of f) o.section) _ good).1 in
+      (subst (Around (loads_of f)) (sym o.is) (around_section (loads_of f) o.section room o.lies), ap is_ragged o.is ∙ even)
 
   in_segments : (r : ℕ × ℕ) → section_ranges (loads_of f) f.sections ≡ [] → Among r (segment_ranges (loads_of f)) → Around (loads_of f) r × (is_ragged r ≡ false)
   in_segments r none m =
       let o = of_segment (loads_of f) r m in
       let s = load_source f.segments o.segment o.among in
-      let good = none_passes (is_misshapen_segment f) s.segment f.segments shape.segments s.among in
+      let good = none_passes (is_misshapen_segment f) s.segment f.segments segments s.among in
       let some : 0 < s.segment.memory = subst (λ x. 0 < x.size) s.is o.some in
-      let image : is_in_image s.segment ≡ true = and_from (s.segment.kind == 1) (nat_lt 0 s.segment.memory) (eq-eqb s.segment.kind 1 s.kind) (lt-ltb 0 s.segment.memory some) in
+      let empty : is_empty (section_ranges (loads_of f) f.sections) ≡ true = ap is_empty none in
       let executed : is_executed s.segment ≡ true = sym (ap (λ x. x.flags.execute) s.is) ∙ o.executes in
-      let even = four (is_empty (section_ranges (loads_of f) f.sections)) (is_in_image s.segment) (is_executed s.segment) (is_ragged (segment_range s.segment)) (empty_is (section_ranges (loads_of f) f.sections) none) image executed good in
+      let even : is_ragged (segment_range s.segment) ≡ false = rw (empty, eq-eqb s.segment.kind 1 s.kind, lt-ltb 0 s.segment.memory some, executed) at good in
       let range : r ≡ segment_range s.segment = o.is ∙ ap (λ x. (x.address, x.address + x.size)) s.is in
-      (record { segment = o.segment; among = o.among; executes = o.executes; from = subst (λ t. o.segment.address ≤ t.0) (sym o.is) (omega arith); to = subst (λ t. t.1 ≤ o.segment.address + o.segment.size) (sym o.is) (omega arith) }, ap is_ragged range ∙ even)
+      (record { some = subst (λ t. t.0 < t.1) (sym o.is) (let some = o.some in omega (arith, some)); segment = o.segment; among = o.among; executes = o.executes; from = subst (λ t. o.segment.address ≤ t.0) (sym o.is) (omega arith); to = subst (λ t. t.1 ≤ o.segment.address + o.segment.size) (sym o.is) (omega arith) }, ap is_ragged range ∙ even)
 
-  pub code_range : (r : ℕ × ℕ) → Among r (ranges_of f) → Around (loads_of f) r × (is_ragged r ≡ false)
-  code_range r m = by (section_ranges (loads_of f) f.sections) refl m where
+  pub even_range : (r : ℕ × ℕ) → Among r (ranges_of f) → Around (loads_of f) r × (is_ragged r ≡ false)
+  even_range r m = by (section_ranges (loads_of f) f.sections) refl m where
     by :
         (rs : List (ℕ × ℕ)) → section_ranges (loads_of f) f.sections ≡ rs → Among r (first_some rs (segment_ranges (loads_of f)))
         → Around (loads_of f) r × (is_ragged r ≡ false)
     by [] e k = in_segments r e k
     by (x ∷ xs) e k = in_sections r (subst (Among r) (sym e) k)
+
+module _ (f : ElfFile) (shape : IsShapely f) where
+  pub code_range : (r : ℕ × ℕ) → Among r (ranges_of f) → Around (loads_of f) r × (is_ragged r ≡ false)
+  code_range = even_range f shape.sections shape.segments
 
   -- ---- a code address
   pub code_at : (a : ℕ) → is_code f a ≡ true → CodeAt f a

@@ -1,6 +1,7 @@
 pub mod Fields
 pub mod ProgramHeaders
 pub mod DataRangesLaws
+pub mod Sought
 pub mod ImageLaws
 pub mod LowRegisters
 pub mod Fetches

@@ -12,26 +12,18 @@ use Rattle.machine.specs.Operands.{has_rd, has_rs1, has_rs2, is_fence}
 use Rattle.machine.proofs.Lemmas.{writes_rd-format, reads_rs1-format, reads_rs2-format, decode-fits, fits-decode}
 
 -- ---- fields that a format does not have
-zero_rd : (f : Format) (k : Kind) (w : ℕ) → has_rd f ≡ false → (ins_of f k w).rd ≡ 0
-unfolding ins_of
-zero_rd S k w e = refl
-zero_rd B k w e = refl
-zero_rd N k w e = refl
-zero_rd f k w e = absurd (false≢true (sym e))
+no : {A : Type 0} → true ≡ false → A
+no e = absurd (false≢true (sym e))
 
-zero_rs1 : (f : Format) (k : Kind) (w : ℕ) → has_rs1 f ≡ false → (ins_of f k w).rs1 ≡ 0
+zero_fields : (f : Format) (k : Kind) (w : ℕ) → (has_rd f ≡ false → (ins_of f k w).rd ≡ 0) × (has_rs1 f ≡ false → (ins_of f k w).rs1 ≡ 0) × (has_rs2 f ≡ false → (ins_of f k w).rs2 ≡ 0)
 unfolding ins_of
-zero_rs1 U k w e = refl
-zero_rs1 J k w e = refl
-zero_rs1 N k w e = refl
-zero_rs1 f k w e = absurd (false≢true (sym e))
-
-zero_rs2 : (f : Format) (k : Kind) (w : ℕ) → has_rs2 f ≡ false → (ins_of f k w).rs2 ≡ 0
-unfolding ins_of
-zero_rs2 R k w e = absurd (false≢true (sym e))
-zero_rs2 S k w e = absurd (false≢true (sym e))
-zero_rs2 B k w e = absurd (false≢true (sym e))
-zero_rs2 o k w e = refl
+zero_fields R k w = (no, no, no)
+zero_fields S k w = (λ e. refl, no, no)
+zero_fields B k w = (λ e. refl, no, no)
+zero_fields U k w = (no, λ e. refl, λ e. refl)
+zero_fields J k w = (no, λ e. refl, λ e. refl)
+zero_fields N k w = (λ e. refl, λ e. refl, λ e. refl)
+zero_fields o k w = (no, no, λ e. refl)
 
 -- an instruction is that of its kind's format
 pub decoded_is : (w : ℕ) (i : Ins) → decode_of w ≡ Some i → i ≡ ins_of (row_of i.kind).format i.kind w
@@ -63,11 +55,12 @@ pub low_fields : (w : ℕ) (i : Ins) → decode_of w ≡ Some i → high_registe
 low_fields w i e h f =
     let form = (row_of i.kind).format in
     let is = decoded_is w i e in
+    let none = zero_fields form i.kind w in
     let a = none_left (if_high (writes i)) (option_or (if_high (reads i).0) (if_high (reads i).1)) h in
     let rest = none_right (if_high (writes i)) (option_or (if_high (reads i).0) (if_high (reads i).1)) h in
     let b = none_left (if_high (reads i).0) (if_high (reads i).1) rest in
     let c = none_right (if_high (reads i).0) (if_high (reads i).1) rest in (
-      low_field (has_rd form) (is_fence i.kind) (writes_rd (class_of i.kind)) i.rd (writes_rd-format i.kind) f (λ z. ap (λ x. x.rd) is ∙ zero_rd form i.kind w z) a,
-      low_field (has_rs1 form) (is_fence i.kind) (reads_rs1 (class_of i.kind) i.kind) i.rs1 (reads_rs1-format i.kind) f (λ z. ap (λ x. x.rs1) is ∙ zero_rs1 form i.kind w z) b,
-      low_field (has_rs2 form) (is_fence i.kind) (reads_rs2 (class_of i.kind) i.kind) i.rs2 (reads_rs2-format i.kind) f (λ z. ap (λ x. x.rs2) is ∙ zero_rs2 form i.kind w z) c,
+      low_field (has_rd form) (is_fence i.kind) (writes_rd (class_of i.kind)) i.rd (writes_rd-format i.kind) f (λ z. ap (λ x. x.rd) is ∙ none.0 z) a,
+      low_field (has_rs1 form) (is_fence i.kind) (reads_rs1 (class_of i.kind) i.kind) i.rs1 (reads_rs1-format i.kind) f (λ z. ap (λ x. x.rs1) is ∙ none.1 z) b,
+      low_field (has_rs2 form) (is_fence i.kind) (reads_rs2 (class_of i.kind) i.kind) i.rs2 (reads_rs2-format i.kind) f (λ z. ap (λ x. x.rs2) is ∙ none.2 z) c,
     )

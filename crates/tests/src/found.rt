@@ -1,10 +1,10 @@
 //! The code ranges of a file.
-ghost use Rattle.std.specs.Prelude.{◌≡◌, ◌++◌, true, false, Contains, IfOk, MatchOption};
+ghost use Rattle.std.specs.Prelude.{◌≡◌, ◌++◌, true, false, IfOk};
 ghost use Rattle.machine.specs.Loading.{load_segment, load_segments, lies_in_code, lies_in_any, section_ranges, segment_ranges, code_ranges};
 ghost use Rattle.tests.specs.Admission.CodeWords.{ranges_of};
 ghost use Rattle.tests.specs.Ranges.{spans};
 
-use crate::code_range::CodeRange;
+use crate::range::Span;
 use elf_types::{ElfFile, Section, Segment};
 use std::alloc::{AllocError, Global};
 
@@ -18,23 +18,16 @@ pub fn lies_in(section: &Section, segment: &Segment) -> bool
             <= u128::from(segment.address) + u128::from(segment.memory)
 }
 
-/// The first executable segment of type PT_LOAD inside which a section lies wholly.
-pub fn code_segment<'a>(section: &Section, segments: &'a [Segment]) -> Option<&'a Segment>
-    ensures { MatchOption result (lies_in_any section.now (load_segments segments.now) ≡ false) (λ s. (lies_in_any section.now (load_segments segments.now) ≡ true) × Contains segments.now s.now × (s.now.kind ≡ 1) × (lies_in_code section.now (load_segment s.now) ≡ true)) }
-{
-    for segment in segments {
-        if segment.is_load() && lies_in(section, segment) {
-            return Some(segment);
-        }
-    }
-    None
-}
-
 /// Whether a section lies wholly inside one executable segment of type PT_LOAD.
 pub fn lies_in_any(section: &Section, segments: &[Segment]) -> bool
     ensures { result ≡ lies_in_any section.now (load_segments segments.now) }
 {
-    code_segment(section, segments).is_some()
+    for segment in segments {
+        if segment.is_load() && lies_in(section, segment) {
+            return true;
+        }
+    }
+    false
 }
 
 /// The sections of code that lie wholly inside an executable segment.
@@ -42,15 +35,15 @@ fn ranges_of_sections(
     alloc: Global,
     segments: &[Segment],
     sections: &[Section],
-) -> Result<Vec<CodeRange>, AllocError>
+) -> Result<Vec<Span>, AllocError>
     ensures { IfOk result (λ ranges. spans ranges.items ≡ section_ranges (load_segments segments.now) sections.now) }
 {
     let mut ranges = Vec::new(alloc);
     for section in sections {
         if section.is_code() && lies_in_any(section, segments) {
-            ranges.push(CodeRange {
+            ranges.push(Span {
                 start: section.address,
-                size: section.size,
+                end: u128::from(section.address) + u128::from(section.size),
             })?;
         }
     }
@@ -58,15 +51,15 @@ fn ranges_of_sections(
 }
 
 /// The executable segments of type PT_LOAD that have bytes in memory.
-fn ranges_of_segments(alloc: Global, segments: &[Segment]) -> Result<Vec<CodeRange>, AllocError>
+fn ranges_of_segments(alloc: Global, segments: &[Segment]) -> Result<Vec<Span>, AllocError>
     ensures { IfOk result (λ ranges. spans ranges.items ≡ segment_ranges (load_segments segments.now)) }
 {
     let mut ranges = Vec::new(alloc);
     for segment in segments {
         if segment.is_in_image() && segment.is_executable() {
-            ranges.push(CodeRange {
+            ranges.push(Span {
                 start: segment.address,
-                size: segment.memory,
+                end: segment.end(),
             })?;
         }
     }
@@ -75,7 +68,7 @@ fn ranges_of_segments(alloc: Global, segments: &[Segment]) -> Result<Vec<CodeRan
 
 /// The code ranges of a file, in the order of their sections, or, where no section is one, in the order of their
 /// segments.
-pub fn code_ranges(alloc: Global, file: &ElfFile) -> Result<Vec<CodeRange>, AllocError>
+pub fn code_ranges(alloc: Global, file: &ElfFile) -> Result<Vec<Span>, AllocError>
     ensures { IfOk result (λ ranges. spans ranges.items ≡ ranges_of file.now) }
 {
     let segments = file.segments.as_slice();

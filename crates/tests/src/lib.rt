@@ -2,7 +2,6 @@
 #![tactic(auto)]
 
 mod admit;
-mod code_range;
 mod cut;
 mod found;
 mod laws;
@@ -12,11 +11,10 @@ mod test;
 mod words;
 
 pub use admit::AdmitError;
-pub use code_range::{CodeRange, is_code_address};
 pub use cut::is_cut_by_any;
-pub use found::{code_ranges, code_segment, lies_in_any};
+pub use found::{code_ranges, lies_in_any};
 pub use laws::{admission_has_one_answer, data_ranges_are_joined};
 pub use options::{Entries, LEAN_EVERY, LEAN_INST_MAX, LEAN_ROUND, Options};
-pub use range::{Range, Ranges};
+pub use range::{Range, Ranges, Span, is_code_address};
 pub use test::{CodeWord, CodeWords, Test};
-pub use words::word_in;
+pub use words::{rest_of, word_in};

@@ -1,13 +1,10 @@
-use Rattle.std.proofs.Common.{◌∙◌, ap, ◌++◌, ◌∷◌, [], ℕ, ◌≤◌, ◌*◌, ◌+◌, arith}
+use Rattle.std.proofs.Common.{ℕ, ◌≤◌, ◌*◌, ◌+◌, arith}
 use Rattle.std.proofs.lemmas.List.{take_rest}
-use Rattle.block_split.proofs.PieceLengths.{made_lengths, empty_lengths, more_made, all_made, is_nil, is_some, within_body, rest_some, some_run, added}
+use Rattle.block_split.proofs.PieceLengths.{made_lengths, more_made, all_made, is_some, within_body, rest_some, some_run, added}
 use Rattle.block_split.proofs.pieces.split.Goals as goal
 
 max_some : (min max : ℕ) → 1 ≤ min → 2 * min ≤ max + 1 → 1 ≤ max
 max_some min max h k = omega (arith, h, k)
-
-pub returns-then-is_empty : goal.returns-then-is_empty
-returns-then-is_empty c = empty_lengths _ _ _ (max_some _ _ c.requires.least c.requires.room) (is_nil _ c.if-is_empty.ensures) (c.in_ok-push.ensures.items ∙ ap (λ xs. xs ++ 0 ∷ []) c.new-lengths.ensures.items)
 
 pub loop-at-preserved : goal.loop-at-preserved
 loop-at-preserved c =

@@ -1,14 +1,8 @@
-use Rattle.tests.specs.Admission.Reached.{leads, sum_leads, once}
-use Rattle.flow_recovery.proofs.SetLaws.{adds_more, adds_all}
+use Rattle.tests.specs.Admission.Reached.{sum_leads}
+use Rattle.flow_recovery.proofs.SetLaws.{adds_more}
 use Rattle.flow_recovery.proofs.constants.add_once.Goals as goal
 
 pub loop-word-preserved : goal.loop-word-preserved
 loop-word-preserved c =
-    adds_more (λ d a. sum_leads c.args.test.now c.args.register c.args.value a d) _ _ _ _ _ _
+    adds_more (λ d a. sum_leads c.args.test.now c.args.known.now.register c.args.known.now.value a d) _ _ _ _ _ _
     c.loop-word-test.true c.word-item.is c.loop-word.invariant c.in_ok-add_sum.ensures
-
-pub returns : goal.returns
-unfolding once
-returns c =
-    adds_all (λ d a. sum_leads c.args.test.now c.args.register c.args.value a d) (leads c.args.test.now c.args.value) c.args.near.now _ _ _ _
-    c.loop-word-test.false c.in_ok-add_constant.ensures c.loop-word.invariant

@@ -6,4 +6,4 @@ use Rattle.flow_recovery.proofs.constants.add_twice.Given as goal
 
 -- those so far were added
 abbrev pub invariant-loop-word : goal.invariant-loop-word
-invariant-loop-word l = Adds l.initial.list.items l.list.items (λ a. list_any (sums_lead l.test l.near l.register l.value a) (take l.word-index l.near))
+invariant-loop-word l = Adds l.initial.list.items l.list.items (λ a. list_any (sums_lead l.test l.known.near.now l.known.register l.known.value a) (take l.word-index l.known.near.now))

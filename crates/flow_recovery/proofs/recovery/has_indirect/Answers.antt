@@ -3,8 +3,5 @@ use Rattle.std.proofs.lemmas.Grind.{common_steps}
 use Rattle.flow_recovery.proofs.LeaderLaws.{indirect_is}
 use Rattle.flow_recovery.proofs.recovery.has_indirect.Goals as goal
 
-pub returns-then-is_indirect-clause-exact : goal.returns-then-is_indirect-clause-exact
-returns-then-is_indirect-clause-exact c = λ f words. indirect_is f _ _ words (grind (arith, common_steps))
-
 pub returns-clause-exact : goal.returns-clause-exact
 returns-clause-exact c = λ f words. indirect_is f _ _ words (grind (arith, common_steps))

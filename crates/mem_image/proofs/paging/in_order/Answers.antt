@@ -2,17 +2,11 @@ use Rattle.std.proofs.Common.{◌≡◌, length, arith, rules}
 use Rattle.std.proofs.lemmas.List.Sorted.{IsNonDecreasingBy-from_sort_by_key}
 use Rattle.mem_image.specs.Overlap.{segment_of, segments_of}
 use Rattle.mem_image.proofs.OverlapLaws.{seen_there}
-use Rattle.mem_image.proofs.PagingLaws.{orders_none, orders_passed, orders_more, orders_moved}
+use Rattle.mem_image.proofs.PagingLaws.{orders_none, orders_more, orders_moved}
 use Rattle.mem_image.proofs.paging.in_order.Goals as goal
 
 pub loop-i-init : goal.loop-i-init
 loop-i-init c = rw c.new-order.ensures.items (orders_none (segments_of c.args.specs.now))
-
-pub loop-i-preserved-then-spec-eq0 : goal.loop-i-preserved-then-spec-eq0
-loop-i-preserved-then-spec-eq0 c =
-    let here = seen_there segment_of c.args.specs.now c.loop-i.i c.index-specs-i.result c.loop-i-test.true c.index-specs-i.is in
-    let none = c.if-spec-eq0.true in
-    orders_passed (segments_of c.args.specs.now) c.loop-i.order.items c.loop-i.i (segment_of c.index-specs-i.result) here (omega (arith, none)) c.loop-i.invariant
 
 pub loop-i-preserved : goal.loop-i-preserved
 loop-i-preserved c =

@@ -1,7 +1,7 @@
 use Rattle.std.proofs.Common.{refl, sym, ◌∙◌}
 use Rattle.machine.specs.Program.{memory_of}
 use Rattle.mem_image.specs.Access.{needs}
-use Rattle.mem_image.proofs.WholeLaws.{here_whole, whole_granted, whole_refused, whole_number, refused_number, granted_number}
+use Rattle.mem_image.proofs.WholeLaws.{here_whole, whole_refused, refused_number}
 use Rattle.mem_image.proofs.within.number_within.Goals as goal
 
 pub returns-then-not-allows-clause-number : goal.returns-then-not-allows-clause-number
@@ -9,13 +9,3 @@ returns-then-not-allows-clause-number c =
     let here = here_whole c.args.pages.now c.args.pages.now c.args.address c.args.width c.args.at c.index-pages-at.result refl c.requires.whole c.requires.below c.index-pages-at.is in
     refused_number (needs c.args.access) (memory_of c.args.pages.now) c.args.address c.args.width
     (whole_refused (needs c.args.access) c.args.pages.now c.args.at c.index-pages-at.result c.args.address c.args.width c.requires.sound here.0 here.1 c.requires.some (sym c.allows.ensures ∙ c.if-not-allows.true))
-
-pub number-requires-clause-has : goal.number-requires-clause-has
-number-requires-clause-has c = (here_whole c.args.pages.now c.args.pages.now c.args.address c.args.width c.args.at c.index-pages-at.result refl c.requires.whole c.requires.below c.index-pages-at.is).1
-
-pub returns-clause-number : goal.returns-clause-number
-returns-clause-number c =
-    let here = here_whole c.args.pages.now c.args.pages.now c.args.address c.args.width c.args.at c.index-pages-at.result refl c.requires.whole c.requires.below c.index-pages-at.is in
-    granted_number (needs c.args.access) (memory_of c.args.pages.now) c.args.address c.args.width c.number.result
-    (whole_granted (needs c.args.access) c.args.pages.now c.args.at c.index-pages-at.result c.args.address c.args.width c.requires.sound here.0 here.1 (sym c.allows.ensures ∙ c.if-not-allows.false))
-    (c.number.ensures.number ∙ whole_number c.args.pages.now c.args.at c.index-pages-at.result c.args.address c.args.width c.requires.sound here.0 here.1)

@@ -1,17 +1,9 @@
 use Rattle.std.proofs.Common.{rules}
 use Rattle.std.specs.Prelude.{nat_lt}
 use Rattle.std.proofs.lemmas.List.Sorted.{IsPartitionPoint-from_clause, IsPartitionedBy-ltb}
-use Rattle.output_file.proofs.Finding.{rows_ascend, entry_near, entry_here, entry_past, entry_other}
+use Rattle.output_file.proofs.Finding.{rows_ascend, entry_past, entry_other}
 use Rattle.output_file.proofs.symbols.entry_at.Goals as goal
 use Rattle.output_file.proofs.symbols.entry_at.Goals.{else-place-entries-via-then-place-entries+else-entries-place, else-place-entries-via-else-place-entries}
-
-pub returns-then-entries-near : goal.returns-then-entries-near
-returns-then-entries-near c = λ h. entry_near c.args.entries.now h c.args.address c.args.next.now _ c.if-near-entries.true c.if-entries-near.true
-
-pub returns-then-entries-place : goal.returns-then-entries-place
-returns-then-entries-place c = λ h.
-    let point = IsPartitionPoint-from_clause (λ r. nat_lt r.input c.args.address) _ _ c.partition_point-place.ensures.partitioned (IsPartitionedBy-ltb (λ r. r.input) _ c.args.address (rows_ascend c.args.entries.now h)) (λ a r q k. search rules) in
-    entry_here c.args.entries.now h c.args.address c.partition_point-place.result point _ c.if-place-entries.true c.if-entries-place.true
 
 pub returns : goal.returns
 returns c = λ h.

@@ -1,13 +1,10 @@
 use Rattle.std.proofs.Common.{◌≤◌, ◌∙◌, ap, sym, length, arith}
 use Rattle.std.specs.Prelude.{map}
-use Rattle.std.proofs.lemmas.Bool.{eqb-true, eqb-false}
+use Rattle.std.proofs.lemmas.Bool.{eqb-false}
 use Rattle.output_file.specs.Laid.{laid}
 use Rattle.output_file.specs.Entries.{entry_word}
-use Rattle.output_file.proofs.Tables.{laid_is_table, no_entries}
+use Rattle.output_file.proofs.Tables.{laid_is_table}
 use Rattle.output_file.proofs.table.table_bytes.Goals as goal
-
-pub returns-then-is_empty : goal.returns-then-is_empty
-returns-then-is_empty c = λ high are. c.in_ok-bytes.ensures.items ∙ no_entries c.args.distance c.args.entries.now (eqb-true (length c.args.entries.now) 0 (sym c.if-is_empty.ensures))
 
 pub returns : goal.returns
 returns c = λ high are.

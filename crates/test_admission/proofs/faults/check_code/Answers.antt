@@ -3,7 +3,7 @@ use Rattle.std.specs.Prelude.{is_some}
 use Rattle.test_admission.specs.declared.rules.CodeRule.TheVariants as rule
 use Rattle.test_admission.specs.Faults.{first_among}
 use Rattle.test_admission.specs.Stretches.{parts_of}
-use Rattle.test_admission.proofs.Faulting.{follow_fit, refused_unknown, refused_high, refused_break, refused_far, passes_code}
+use Rattle.test_admission.proofs.Faulting.{refused_unknown, refused_high, refused_break, refused_far}
 use Rattle.test_admission.proofs.FirstFault.{none_each}
 use Rattle.test_admission.proofs.faults.check_code.Goals as goal
 
@@ -16,28 +16,6 @@ returns-then-is_none-clause-known c =
     let e : is_some (first_among (rule.Any c.args.base) (parts_of c.args.code.now)) ≡ false = ap is_some (sym c.first_among.ensures) ∙ c.is_none.ensures ∙ ap not c.if-is_none.true in
     (none_each c.args.base (parts_of c.args.code.now) (none_is _ e)).0
 
-pub returns-then-is_none-clause-order : goal.returns-then-is_none-clause-order
-returns-then-is_none-clause-order c =
-    let ps = parts_of c.args.code.now in
-    let e : is_some (first_among (rule.Any c.args.base) ps) ≡ false = ap is_some (sym c.first_among.ensures) ∙ c.is_none.ensures ∙ ap not c.if-is_none.true in
-    let none = none_each c.args.base ps (none_is _ e) in
-    passes_code c.args.file.now ps c.requires.code c.requires.passed none.0 none.1 none.2 c.args.base c.requires.base none.3
-
-pub first_among-requires : goal.first_among-requires
-first_among-requires c = follow_fit 0 c.args.code.now c.requires.code.follow
-
-pub first_high-requires : goal.first_high-requires
-first_high-requires c = follow_fit 0 c.args.code.now c.requires.code.follow
-
-pub first_among-requires-2 : goal.first_among-requires-2
-first_among-requires-2 c = follow_fit 0 c.args.code.now c.requires.code.follow
-
-pub first_among-requires-3 : goal.first_among-requires-3
-first_among-requires-3 c = follow_fit 0 c.args.code.now c.requires.code.follow
-
-pub first_among-requires-4 : goal.first_among-requires-4
-first_among-requires-4 c = follow_fit 0 c.args.code.now c.requires.code.follow
-
 pub returns-in-Some-clause-order : goal.returns-in-Some-clause-order
 returns-in-Some-clause-order c = refused_unknown c.args.file.now (parts_of c.args.code.now) c.requires.code c.requires.passed c.in-Some.address c.in-Some.word (sym c.in-Some.ensures)
 
@@ -49,6 +27,3 @@ returns-in-Some-first_among-clause-order c = refused_break c.args.file.now (part
 
 pub returns-in-Some-first_among-2-clause-order : goal.returns-in-Some-first_among-2-clause-order
 returns-in-Some-first_among-2-clause-order c = refused_far c.args.file.now (parts_of c.args.code.now) c.requires.code c.requires.passed (sym c.in_default.ensures) c.in_default-first_high.ensures (sym c.in_default-first_among.ensures) c.args.base c.in-Some-first_among-2.address _ c.requires.base (sym c.in-Some-first_among-2.ensures)
-
-pub returns-clause-order : goal.returns-clause-order
-returns-clause-order c = passes_code c.args.file.now (parts_of c.args.code.now) c.requires.code c.requires.passed (sym c.in_default.ensures) c.in_default-first_high.ensures (sym c.in_default-first_among.ensures) c.args.base c.requires.base (sym c.in_default-first_among-2.ensures)

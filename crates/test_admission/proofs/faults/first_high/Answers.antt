@@ -6,7 +6,7 @@ use Rattle.test_admission.specs.Stretches.{parts_of}
 use Rattle.test_admission.proofs.FirstFault.{hit_among}
 use Rattle.test_admission.proofs.faults.first_high.Goals as goal
 
-pub unreachable-requires : goal.unreachable-requires
-unreachable-requires c =
+pub returns-in_err-register : goal.returns-in_err-register
+returns-in_err-register c =
     let hit = hit_among rule.Registers (parts_of c.args.code.now) (c.in_ok-address.address, c.in_ok-address.word) (sym c.in_ok-address.ensures) in
-    false≢true (ap is_some c.in-None.ensures ∙ hit)
+    absurd (false≢true (ap is_some c.in_err-register.ensures ∙ hit))

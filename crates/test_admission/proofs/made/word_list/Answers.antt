@@ -1,12 +1,8 @@
 use Rattle.std.proofs.Common.{subst, sym}
 use Rattle.tests.specs.Admission.Test.{AreCodeWords}
 use Rattle.test_admission.specs.Stretches.{parts_of}
-use Rattle.test_admission.proofs.Faulting.{follow_fit}
 use Rattle.test_admission.proofs.Listing.{are_words}
 use Rattle.test_admission.proofs.made.word_list.Goals as goal
-
-pub code_words-requires-clause-fits : goal.code_words-requires-clause-fits
-code_words-requires-clause-fits c = follow_fit 0 c.args.code.now c.requires.code.follow
 
 pub returns : goal.returns
 returns c =

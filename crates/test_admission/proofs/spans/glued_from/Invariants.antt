@@ -1,7 +1,8 @@
 use Rattle.std.proofs.Common.{◌≡◌, ◌++◌, drop}
-use Rattle.test_admission.specs.Spans.{bounds_of, all_bounds, glue}
+use Rattle.tests.specs.Ranges.{span, spans}
+use Rattle.test_admission.specs.Spans.{glue}
 use Rattle.test_admission.proofs.spans.glued_from.Given as goal
 
 -- the ranges so far, and the last one joined with the rest, are all
-abbrev pub invariant-loop-span : goal.invariant-loop-span
-invariant-loop-span l = all_bounds l.ranges.items ++ glue (bounds_of l.last) (all_bounds (drop l.span-index l.rest)) ≡ glue (bounds_of l.fn.first) (all_bounds l.rest)
+abbrev pub invariant-loop-next : goal.invariant-loop-next
+invariant-loop-next l = spans l.ranges.items ++ glue (span l.last) (spans (drop l.next-index l.rest)) ≡ glue (span l.fn.first) (spans l.rest)

@@ -1,16 +1,9 @@
 use Rattle.std.proofs.Common.{◌≡◌, ◌+◌, ◌*◌, ◌++◌, ◌∙◌, sym, ap, arith}
-use Rattle.machine.specs.Below.{gather}
 use Rattle.test_gen.specs.Random.{seeded, after}
-use Rattle.test_gen.specs.Code.{main, function, code}
+use Rattle.test_gen.specs.Code.{main}
 use Rattle.test_gen.proofs.RandomWords.{after-more}
-use Rattle.test_gen.proofs.Functions.{function_from, none_yet, one_more}
+use Rattle.test_gen.proofs.Functions.{function_from, one_more}
 use Rattle.test_gen.proofs.code.code.Goals as goal
-
-pub loop-init : goal.loop-init
-loop-init c = record {
-  code = c.in_ok-code.ensures.items ∙ c.main_code.ensures ∙ none_yet c.args.seed c.args.functions;
-  rng = c.seeded-rng.ensures;
-}
 
 pub loop-preserved : goal.loop-preserved
 loop-preserved c =
@@ -21,7 +14,3 @@ loop-preserved c =
           (c.in_ok-push_function.ensures.code ∙ ap (λ l. c.loop.code.items ++ l) (function_from c.args.seed i c.loop.rng c.loop.invariant.rng)) c.loop.invariant.code;
       rng = c.in_ok-push_function.ensures.rng ∙ ap (after 32) c.loop.invariant.rng ∙ after-more 32 (32 * i) (seeded c.args.seed) ∙ sym (ap (λ k. after k (seeded c.args.seed)) more);
     }
-
-pub returns : goal.returns
-unfolding code
-returns c = let all : c.loop.counter ≡ c.args.functions = omega arith in c.loop.invariant.code ∙ ap (λ k. main c.args.functions ++ gather k (function c.args.seed)) all

@@ -1,14 +1,8 @@
-use Rattle.std.proofs.Common.{[], ◌∷◌, ◌++◌, ◌∙◌, ap}
+use Rattle.std.proofs.Common.{[], ◌∷◌}
 use Rattle.std.specs.Prelude.{codes}
-use Rattle.machine.proofs.Lemmas.{each_none, push_after}
+use Rattle.machine.proofs.Lemmas.{push_after}
 use Rattle.test_gen.specs.Generated.{symbol, function_symbol}
 use Rattle.test_gen.proofs.file.symbols.Goals as goal
-
-pub loop-number-init : goal.loop-number-init
-loop-number-init c =
-    c.in_ok-push.ensures.items ∙ ap (λ l. l ++ c.symbol.result ∷ []) c.new-symbols.ensures.items
-    ∙ ap (λ s. s ∷ []) (c.symbol.ensures ∙ ap (λ n. symbol n 0x10000) c.in_ok-from_slice.ensures.items)
-    ∙ ap (λ l. symbol (codes "main") 0x10000 ∷ l) (each_none function_symbol)
 
 pub loop-number-preserved : goal.loop-number-preserved
 loop-number-preserved c =

@@ -1,19 +1,10 @@
-use Rattle.std.proofs.Common.{◌≡◌, ◌-◌, List, ℕ, sym, ap, ◌∙◌, arith, length, take, is_ok, ⊎_elim}
-use Rattle.std.proofs.lemmas.List.{length-take-le}
+use Rattle.std.proofs.Common.{◌≡◌, ◌-◌, List, ℕ, ap, ◌∙◌, take, is_ok, ⊎_elim}
 use Rattle.machine.specs.Program.{LoadSegment}
 use Rattle.mem_image.specs.Segments.{bytes_put}
 use Rattle.mem_image.proofs.WholeLaws.{spans}
 use Rattle.mem_image.proofs.PageLaws.{put-take, put_with, put_in}
 use Rattle.mem_image.proofs.WholeLaws.{like_put}
 use Rattle.mem_image.proofs.held.Held.put_shared.Goals as goal
-
-pub returns-clause-whole : goal.returns-clause-whole
-returns-clause-whole c =
-    let x = c.self.inside in
-    let most = c.self.invariant.most in
-    let same : c.in_ok-own.own.now ≡ x.page.value = ⊎_elim (λ e. e) (λ e. e) c.in_ok-own.ensures.value in
-    let count : length x.page.value.bytes ≡ 4096 = ap (λ p. length p.bytes) (sym same) ∙ c.put.ensures.count in
-    ap (λ s. length s.bytes) (sym c.self.view_is) ∙ length-take-le x.size x.page.value.bytes (omega (arith, most, count)) ∙ ap (λ s. s.size) c.self.view_is
 
 pub returns-clause-put : goal.returns-clause-put
 returns-clause-put c =

@@ -1,18 +1,11 @@
-use Rattle.std.proofs.Common.{◌≡◌, List, None, Some, false, sym, ap, ◌∙◌, subst}
+use Rattle.std.proofs.Common.{◌≡◌, List, Some, false, sym, ap, ◌∙◌, subst}
 use Rattle.std.specs.Prelude.{slice_get}
 use Rattle.machine.specs.Program.{LoadSegment}
-use Rattle.machine.specs.Cells.{cell_among}
 use Rattle.mem_image.specs.Fixed.{is_code_flags, has_code}
 use Rattle.mem_image.specs.Overlap.{AreSound}
 use Rattle.mem_image.specs.Segments.{IsFirst}
-use Rattle.mem_image.proofs.FixedLaws.{none_no_code, first_no_code, if_none}
+use Rattle.mem_image.proofs.FixedLaws.{first_no_code, if_none}
 use Rattle.mem_image.proofs.image.Image.code.Goals as goal
-
-pub returns-in_default-clause-none : goal.returns-in_default-clause-none
-returns-in_default-clause-none c =
-    let sound : AreSound c.self.inside.pages = subst AreSound c.as_slice.ensures.value c.as_slice.ensures.sound in
-    let none : cell_among c.self.inside.pages c.args.address ≡ None = rw c.as_slice.ensures.value at c.in_default.ensures.none in
-    ap (λ m. has_code m c.args.address) (sym c.self.view_is) ∙ none_no_code c.self.inside.pages c.args.address sound.fit none
 
 pub returns-clause-none : goal.returns-clause-none
 returns-clause-none c =

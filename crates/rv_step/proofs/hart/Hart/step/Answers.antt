@@ -4,12 +4,9 @@ use Rattle.machine.specs.Progress.{Progress}
 use Rattle.machine.specs.Step.{step}
 use Rattle.rv_step.specs.Harts.{HartState, with_memory}
 use Rattle.rv_step.specs.Known.{at_state, goes_on, IsMade}
-use Rattle.rv_step.proofs.Running.{stays, made_none, step_made, made_counted, one_run}
+use Rattle.rv_step.proofs.Running.{made_none, step_made, made_counted, one_run}
 use Rattle.rv_step.proofs.WindowLaws.{step_acts}
 use Rattle.rv_step.proofs.hart.Hart.step.Goals as goal
-
-pub returns-then-not-goes_on-clause-step : goal.returns-then-not-goes_on-clause-step
-returns-then-not-goes_on-clause-step c = sym (stays (with_memory c.args.self.now c.args.image.now) (sym c.goes_on.ensures ∙ c.if-not-goes_on.true))
 
 pub returns-clause-step : goal.returns-clause-step
 returns-clause-step c =

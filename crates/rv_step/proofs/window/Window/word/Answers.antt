@@ -1,5 +1,5 @@
-use Rattle.std.proofs.Common.{ℕ, ◌+◌, ◌-◌, ◌%◌, ◌^◌, ◌<◌, subst, arith}
-use Rattle.rv_step.specs.Windows.{IsIn, HasWord, HasWords}
+use Rattle.std.proofs.Common.{ℕ, ◌+◌, ◌-◌, ◌%◌, ◌^◌, ◌<◌, arith}
+use Rattle.rv_step.specs.Windows.{IsIn, HasWords}
 use Rattle.rv_step.specs.declared.window.Window.{Window}
 use Rattle.rv_step.proofs.WindowLaws.{window_word, window_fixed}
 use Rattle.rv_step.proofs.window.Window.word.Goals as goal
@@ -9,9 +9,6 @@ is_in : (w : Window) (a : ℕ) → HasWords w → a < 2 ^ 64 → (a + (2 ^ 64 - 
 is_in w a h small behind =
     let ends = h.ends in
     record { low = omega (arith, ends, small, behind); high = omega (arith, ends, small, behind) }
-
-pub word-requires : goal.word-requires
-word-requires c = subst (λ o. HasWord o c.args.address) c.in-Some.is (c.requires.bytes c.args.address (is_in c.args.self.now c.args.address c.requires (omega arith) c.if-address-self.false))
 
 pub returns-clause-word : goal.returns-clause-word
 returns-clause-word c = λ s h at. window_word s c.args.self.now c.in-Some.code c.args.address _ h c.in-Some.is at (is_in c.args.self.now c.args.address c.requires (omega arith) c.if-address-self.false) c.word.ensures

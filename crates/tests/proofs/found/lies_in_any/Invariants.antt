@@ -1,6 +1,6 @@
 use Rattle.std.proofs.Common.{◌≡◌, drop}
 use Rattle.machine.specs.Loading.{load_segments, lies_in_any}
-use Rattle.tests.proofs.found.code_segment.Given as goal
+use Rattle.tests.proofs.found.lies_in_any.Given as goal
 
 -- the rest decides
 abbrev pub invariant-loop-segment : goal.invariant-loop-segment
