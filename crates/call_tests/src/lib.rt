@@ -8,7 +8,6 @@ mod folders;
 #[cfg(test)]
 mod jumps;
 #[cfg(test)]
-#[cfg(test)]
 mod too_large;
 #[cfg(test)]
 mod world;

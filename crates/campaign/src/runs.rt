@@ -53,12 +53,6 @@ impl Model for Runs {
 /// How many steps, which strikes may take at most, are worth one that is traced.
 const TRACED: u64 = 100;
 
-/// For how many steps the input is watched: up to the end of most strikes.
-fn watched_for(reach: u64, bounds: &Bounds) -> u64 {
-    let bound = bounds.word.unwrap_or(0).max(bounds.register);
-    reach.saturating_add(bound.min(MOST_BEHIND))
-}
-
 /// Whether a place is a word.
 fn is_word(place: &Place) -> bool
     ensures { result ≡ is_word_of place.now }
@@ -135,7 +129,10 @@ impl Runs {
         ensures bounds { IfOk result (λ runs. runs.bounds ≡ bounds) }
     {
         let output = Snapshots::take(alloc, output)?;
-        let input = Watched::watch(alloc, input, watched_for(output.reach(), &bounds))?;
+        // The input is watched up to the end of most strikes.
+        let bound = bounds.word.unwrap_or(0).max(bounds.register);
+        let most = output.reach().saturating_add(bound.min(MOST_BEHIND));
+        let input = Watched::watch(alloc, input, most)?;
         Ok(Runs {
             input,
             output,

@@ -18,6 +18,14 @@ use std::io::Error;
 use std::slice;
 use texts::{MOST_OF_NAME, MOST_OF_PATH, digits, printable};
 
+/// A call that ended: its words, what it printed, by its first bytes, and the machine's reason, of a load or a store that failed.
+#[derive(Clone, Copy)]
+pub struct EndedCall<'a> {
+    pub words: &'a [String],
+    pub printed: &'a str,
+    pub reason: Option<Error>,
+}
+
 /// The files that an order reads.
 fn sources(order: &Order) -> &[Name] {
     match order {
@@ -75,28 +83,18 @@ fn push_register(alloc: Global, text: &mut String, line: &str) -> Result<(), All
     Ok(())
 }
 
-/// Appends the text of a line of a file, numbered from 1.
-fn push_line<S: Shelf>(
-    alloc: Global,
-    text: &mut String,
-    name: &str,
-    line: &str,
-    shelf: &mut S,
-) -> Result<(), AllocError>
-    ensures { S.files shelf.new ≡ S.files shelf.old }
-{
+/// Appends the text of the line of a file, numbered from 1, of which a printed line tells.
+fn push_line(alloc: Global, text: &mut String, line: &str, bytes: &[u8]) -> Result<(), AllocError> {
     let (_, number) = line.split_once("line ").unwrap_or((line, ""));
     let number = digits(10, 20, number.as_bytes()).unwrap_or(0);
     if number == 0 {
         return Ok(());
     }
-    if let Some(bytes) = loaded(alloc, name, shelf)? {
-        let mut lines = bytes.as_slice().split(|byte| *byte == b'\n');
-        if let Some(found) = lines.nth((number - 1) as usize) {
-            let found = found.trim_with(|c| c == ' ' || c == '\t');
-            text.push_str(&printable(alloc, found, MOST_OF_NAME)?)?;
-            text.push_str("\n")?;
-        }
+    let mut lines = bytes.split(|byte| *byte == b'\n');
+    if let Some(found) = lines.nth((number - 1) as usize) {
+        let found = found.trim_with(|c| c == ' ' || c == '\t');
+        text.push_str(&printable(alloc, found, MOST_OF_NAME)?)?;
+        text.push_str("\n")?;
     }
     Ok(())
 }
@@ -108,41 +106,23 @@ fn was_read(line: &str) -> bool {
     limit.starts_with('L') && limit != "L1" && limit != "L5" && limit != "L10"
 }
 
-/// Appends which section of the file of a name is the largest, where its sections can be read.
-fn push_section<S: Shelf>(
-    alloc: Global,
-    text: &mut String,
-    name: &str,
-    shelf: &mut S,
-) -> Result<(), AllocError>
-    ensures { S.files shelf.new ≡ S.files shelf.old }
-{
-    let Some(bytes) = loaded(alloc, name, shelf)? else {
-        return Ok(());
-    };
-    match read_sections(alloc, bytes.as_slice()) {
-        Ok(sections) => push_largest(alloc, text, sections.as_slice()),
-        Err(_) => Ok(()),
-    }
-}
-
 /// Appends the place in a file of which a line tells, or, of a limit, what takes most of it.
-fn push_where<S: Shelf>(
+fn push_where(
     alloc: Global,
     text: &mut String,
-    name: &str,
     line: &str,
-    shelf: &mut S,
-) -> Result<(), AllocError>
-    ensures { S.files shelf.new ≡ S.files shelf.old }
-{
+    bytes: &[u8],
+) -> Result<(), AllocError> {
     if line.starts_with('N') {
         return Ok(());
     }
     if was_read(line) {
-        return push_section(alloc, text, name, shelf);
+        return match read_sections(alloc, bytes) {
+            Ok(sections) => push_largest(alloc, text, sections.as_slice()),
+            Err(_) => Ok(()),
+        };
     }
-    let Some(file) = read(alloc, name, shelf)? else {
+    let Ok(file) = read_elf(alloc, bytes) else {
         return Ok(());
     };
     if let Some(address) = address_behind(line, "address 0x") {
@@ -170,11 +150,12 @@ fn refused<S: Shelf>(
     let [name] = sources(asked) else {
         return format!(in alloc; "qed: {sentence} ({found})\n");
     };
-    let name = name.as_str();
-    let file = path(alloc, name)?;
+    let file = path(alloc, name.as_str())?;
     let mut text = format!(in alloc; "qed: {file}: {sentence} ({found})\n")?;
-    push_where(alloc, &mut text, name, line, shelf)?;
-    push_line(alloc, &mut text, name, line, shelf)?;
+    if let Some(bytes) = loaded(alloc, name.as_str(), shelf)? {
+        push_where(alloc, &mut text, line, bytes.as_slice())?;
+        push_line(alloc, &mut text, line, bytes.as_slice())?;
+    }
     Ok(text)
 }
 
@@ -195,22 +176,14 @@ pub(crate) fn push_reason(
     text.push_str("\n")
 }
 
-/// Whether a file cannot be read.
-fn is_unread<S: Shelf>(alloc: Global, name: &str, shelf: &mut S) -> bool
-    ensures { S.files shelf.new ≡ S.files shelf.old }
-{
-    let loaded = shelf.load(alloc, name, 0);
-    matches!(&loaded, Err(LoadError::Failed))
-}
-
 /// The first of the files that cannot be read.
 fn first_unread<'a, S: Shelf>(alloc: Global, names: &'a [Name], shelf: &mut S) -> Option<&'a Name>
     ensures { S.files shelf.new ≡ S.files shelf.old }
 {
     let mut found = None;
     for name in names {
-        let is_lost = is_unread(alloc, name.as_str(), shelf);
-        if is_lost && found.is_none() {
+        let loaded = shelf.load(alloc, name.as_str(), 0);
+        if matches!(&loaded, Err(LoadError::Failed)) && found.is_none() {
             found = Some(name);
         }
     }
@@ -260,31 +233,28 @@ fn made<S: Shelf>(
     }
 }
 
-/// What a person is told of a call that printed this text, by its first line: a sentence on what is wrong, and what may
-/// help. Empty where nothing is. The reason is the machine's, of a load that failed. On a terminal it is told too how much
-/// longer an output is than its test. No file is changed.
+/// What a person is told of a call, by the first line that it printed: a sentence on what is wrong, and what may help. Empty
+/// where nothing is. On a terminal it is told too how much longer an output is than its test. No file is changed.
 pub fn advice<S: Shelf>(
     alloc: Global,
-    words: &[String],
-    printed: &str,
-    reason: Option<Error>,
+    call: &EndedCall<'_>,
     on_terminal: bool,
     shelf: &mut S,
 ) -> Result<String, AllocError>
     ensures { S.files shelf.new ≡ S.files shelf.old }
 {
-    let line = printed.lines().next().unwrap_or("");
+    let line = call.printed.lines().next().unwrap_or("");
     let (kind, rest) = line.split_once(" ").unwrap_or((line, ""));
     if kind == "usage:" {
-        return usage(alloc, words, rest);
+        return usage(alloc, call.words, rest);
     }
-    let Ok(asked) = order(alloc, words) else {
+    let Ok(asked) = order(alloc, call.words) else {
         return Ok(String::new(alloc));
     };
     match kind {
         "refused" | "limit" => refused(alloc, &asked, rest, shelf),
-        "read" => unread(alloc, &asked, reason, shelf),
+        "read" => unread(alloc, &asked, call.reason, shelf),
         "code" => made(alloc, &asked, rest, on_terminal, shelf),
-        _ => of_run(alloc, &asked, printed, shelf),
+        _ => of_run(alloc, &asked, call.printed, shelf),
     }
 }

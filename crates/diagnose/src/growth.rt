@@ -53,14 +53,6 @@ fn lengths(blocks: &[CodeBlock]) -> Option<(u64, u64)> {
     found
 }
 
-/// The same of the pieces that a comparison stands behind: in the lean form of none.
-fn compared_lengths(options: &Options, blocks: &[CodeBlock]) -> Option<(u64, u64)> {
-    match options.lean {
-        None => lengths(blocks),
-        Some(_) => None,
-    }
-}
-
 /// What is told of the output of a test, of which these are the bytes, with so many words of code.
 fn told(alloc: Global, bytes: &[u8], options: &Options, words: u64) -> Result<String, AllocError>
     requires { AreSoundOptions options.now }
@@ -73,8 +65,12 @@ fn told(alloc: Global, bytes: &[u8], options: &Options, words: u64) -> Result<St
     };
     let blocks = blocks(alloc, &test, &file, options)?;
     let code = times(alloc, words, test.code.as_slice().len() as u64)?;
-    let lengths = compared_lengths(options, blocks.as_slice());
-    let Some((least, most)) = lengths else {
+    // Only behind these does a comparison stand, and in the lean form behind none.
+    let compared = match options.lean {
+        None => lengths(blocks.as_slice()),
+        Some(_) => None,
+    };
+    let Some((least, most)) = compared else {
         return format!(in alloc; "qed: the code is {code} times that of the test\n");
     };
     let low = steps(alloc, &test, options, most)?;

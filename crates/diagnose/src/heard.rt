@@ -35,7 +35,7 @@ impl<K: Sink + Drop> Heard<K> {
     }
 
     /// The first bytes as a text, empty where they are none, or where there was no memory.
-    pub(crate) fn text(&self) -> &str {
+    pub fn text(&self) -> &str {
         str::from_utf8(&self.kept).unwrap_or("")
     }
 }

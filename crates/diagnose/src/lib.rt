@@ -12,6 +12,6 @@ mod sentences;
 mod streams;
 mod usage;
 
-pub use answers::advice;
+pub use answers::{EndedCall, advice};
 pub use heard::Heard;
 pub use streams::complain;

@@ -1,8 +1,7 @@
 //! What the program tells on standard error.
 
-use crate::Heard;
-use crate::answers::{advice, path, push_reason};
-use qed_io::{DirShelf, MemoryShelf, StdSink};
+use crate::answers::{EndedCall, advice, path, push_reason};
+use qed_io::{DirShelf, MemoryShelf};
 use qed_words::{Name, Order, order};
 use std::alloc::{AllocError, Global};
 use std::fs;
@@ -21,15 +20,14 @@ fn stored(order: &Order) -> Option<&Name> {
 /// That a file or a text could not be written, and the machine's reason.
 fn unwritten(
     alloc: Global,
-    words: &[String],
-    store: Option<Error>,
+    call: &EndedCall<'_>,
     print: Option<Error>,
 ) -> Result<String, AllocError> {
-    let Ok(asked) = order(alloc, words) else {
+    let Ok(asked) = order(alloc, call.words) else {
         return Ok(String::new(alloc));
     };
     let (what, reason) = match stored(&asked) {
-        Some(name) if store.is_some() => (path(alloc, name.as_str())?, store),
+        Some(name) if call.reason.is_some() => (path(alloc, name.as_str())?, call.reason),
         _ => (String::from_str(alloc, "standard output")?, print),
     };
     let mut text = format!(in alloc; "qed: {what} could not be written")?;
@@ -49,40 +47,37 @@ fn has_pipe<R: Files>(rt: &R, words: &[String]) -> bool {
     false
 }
 
-/// What is told of a call that printed this.
+/// What is told of a call.
 fn told<R: Files + Alloc<A = Global>>(
     rt: &R,
-    words: &[String],
-    printed: &str,
-    reason: Option<Error>,
+    call: &EndedCall<'_>,
     on_terminal: bool,
 ) -> Result<String, AllocError> {
     let alloc = rt.alloc();
-    if has_pipe(rt, words) {
+    if has_pipe(rt, call.words) {
         let mut none = MemoryShelf::new(alloc);
-        return advice(alloc, words, printed, reason, on_terminal, &mut none);
+        return advice(alloc, call, on_terminal, &mut none);
     }
     let mut files = DirShelf::new(alloc, rt);
-    advice(alloc, words, printed, reason, on_terminal, &mut files)
+    advice(alloc, call, on_terminal, &mut files)
 }
 
-/// Tells on standard error why a call with these words, which ended with this code, did not do what it is for, by what it
-/// printed and by the machine's reasons, of files and of standard output. That nothing can be told changes nothing.
-pub fn complain<R: Files + Print + Alloc<A = Global>, E: Eprint + IsTerminal>(
+/// Tells on standard error why a call, which ended with this code, did not do what it is for, by what it printed and by the
+/// machine's reasons, of files and of standard output. That nothing can be told changes nothing.
+pub fn complain<R: Files + Alloc<A = Global>, E: Eprint + IsTerminal>(
     rt: &R,
     err: &E,
-    words: &[String],
+    call: &EndedCall<'_>,
     code: &ExitCode,
-    reason: Option<Error>,
-    out: &Heard<StdSink<'_, R>>,
+    print: Option<Error>,
 ) {
     let alloc = rt.alloc();
     let text = if *code == ExitCode::from(6) {
-        unwritten(alloc, words, reason, out.sink.last_error)
+        unwritten(alloc, call, print)
     } else if *code == ExitCode::from(7) {
         String::from_str(alloc, "qed: there was no memory\n")
     } else {
-        told(rt, words, out.text(), reason, err.is_terminal())
+        told(rt, call, err.is_terminal())
     };
     if let Ok(text) = text {
         let _ = err.eprint(text);

@@ -44,15 +44,6 @@ fn parts(reason: &str) -> (&str, &str) {
     }
 }
 
-/// The option that a reason is about, where it is about one.
-fn option_in<'a>(head: &str, tail: &'a str) -> &'a str {
-    match head {
-        "all entries" => "entries",
-        "few steps" => "every",
-        _ => tail,
-    }
-}
-
 /// The word that is at fault.
 fn at_fault<'a>(
     words: &'a [String],
@@ -118,7 +109,12 @@ fn synopsis(command: Option<Command>, word: Option<Word<'_>>) -> &'static str {
 pub(crate) fn usage(alloc: Global, words: &[String], reason: &str) -> Result<String, AllocError> {
     let (head, tail) = parts(reason);
     let command = words.first().and_then(|word| Command::named(word.as_str()));
-    let option = option_in(head, tail);
+    // The option that the reason is about, where it is about one.
+    let option = match head {
+        "all entries" => "entries",
+        "few steps" => "every",
+        _ => tail,
+    };
     let word = at_fault(words, command, head, option);
     let mut text = first_line(alloc, head, option, word)?;
     if head == "few steps" {

@@ -98,13 +98,6 @@ pub step_next : (r : ℕ → Bool) (p q : Progress) (n : ℕ) (found more : Opti
 step_next r p q n found more at so_far here =
     ap (λ o. option_or o more) so_far ∙ ap (option_or (first_jump r (states p) n)) (here ∙ ap (λ x. astray_of r x.state) at) ∙ in_next r (states p) n
 
--- and of a part of them
-pub part_next :
-    (r : ℕ → Bool) (p q : Progress) (a b n : ℕ) (found more : Option (ℕ × ℕ)) → q ≡ progress p a → a + b ≡ n → found ≡ first_jump r (states p) a → more ≡ first_jump r (states q) b → option_or found more ≡ first_jump r (states p) n
-part_next r p q a b n found more at sum so_far here =
-    let same = first_same r (states q) (λ j. states p (a + j)) b (λ j lt. ap (λ x. x.state) (ap (λ x. progress x j) at ∙ sym (progress_more p a j))) in
-    ap (λ o. option_or o more) so_far ∙ ap (option_or (first_jump r (states p) a)) (here ∙ same) ∙ sym (first_more r (states p) a b) ∙ ap (first_jump r (states p)) sum
-
 -- so it does not jump
 never_stopped : (r : ℕ → Bool) (s : State) → goes_on s.outcome ≡ false → is_astray r s ≡ false
 unfolding is_astray

@@ -1,5 +1,5 @@
 //! Runs with changes, and where a jump by register leads astray in them.
-ghost use Rattle.std.specs.Prelude.{◌≡◌, ◌-◌, ◌≤◌, IfOk};
+ghost use Rattle.std.specs.Prelude.{◌≡◌, ◌-◌, ◌%◌, ◌≤◌, IfOk};
 ghost use Rattle.machine.specs.Progress.{advanced, progress as progress_of};
 ghost use Rattle.qed_model.specs.Promise.Changed.{Ordered, changed_run};
 ghost use Rattle.rv_step.specs.Known.{known_at};
@@ -47,49 +47,21 @@ fn watched_step(
     Ok(None)
 }
 
-/// Runs a machine for n steps, and gives the first jump that leads astray.
-fn watch_steps(
-    machine: &mut Machine,
-    n: u64,
-    reached: &BTreeSet<u64>,
-) -> Result<Option<(u64, u64)>, AllocError>
-    ensures run { IfOk result (λ _. machine.new ≡ progress_of machine.old n) }
-    ensures astray { IfOk result (λ found. found ≡ first_jump (has_address reached.now) (λ k. (progress_of machine.old k).state) n) }
+/// Tells that so many steps are made, `made` of them since the last change, where these are a multiple of some.
+fn tell_at(progress: &mut dyn Progress, made: u64, done: u64)
+    requires rises { told progress.old ≤ done }
+    requires within { done ≤ all progress.old }
+    ensures told { told progress.new ≤ done }
+    ensures part { made % 1048576 ≡ 0 → told progress.new ≡ done }
+    ensures all { all progress.new ≡ all progress.old }
 {
-    let mut found = None;
-    for made in 0..n {
-        if !is_going(machine) {
-            return Ok(found);
-        }
-        let jump = watched_step(machine, reached)?;
-        found = found.or(jump);
+    if made % TOLD_STEPS == 0 {
+        progress.tell(done);
     }
-    Ok(found)
 }
 
-/// Runs a machine that has made `made` steps until it has made `next`, tells that these are made, and gives the first jump that
-/// leads astray.
-fn watch_part(
-    machine: &mut Machine,
-    made: u64,
-    next: u64,
-    reached: &BTreeSet<u64>,
-    progress: &mut dyn Progress,
-) -> Result<Option<(u64, u64)>, AllocError>
-    requires order { made ≤ next }
-    requires told { told progress.old ≡ made }
-    requires within { next ≤ all progress.old }
-    ensures told { IfOk result (λ _. told progress.new ≡ next) }
-    ensures all { IfOk result (λ _. all progress.new ≡ all progress.old) }
-    ensures run { IfOk result (λ _. machine.new ≡ progress_of machine.old (next - made)) }
-    ensures astray { IfOk result (λ found. found ≡ first_jump (has_address reached.now) (λ k. (progress_of machine.old k).state) (next - made)) }
-{
-    let found = watch_steps(machine, next - made, reached)?;
-    progress.tell(next);
-    Ok(found)
-}
-
-/// The same in parts, as `run_on` does.
+/// Runs a machine that has made `from` steps until it has made `to`, tells how many are made, and gives the first jump that leads
+/// astray.
 fn watch_on(
     machine: &mut Machine,
     from: u64,
@@ -106,23 +78,17 @@ fn watch_on(
     ensures astray { IfOk result (λ found. found ≡ first_jump (has_address reached.now) (λ k. (progress_of machine.old k).state) (to - from)) }
 {
     let mut found = None;
-    for parts in 0..(to - from) / TOLD_STEPS {
-        let made = from + TOLD_STEPS * parts;
-        let more = watch_part(machine, made, made + TOLD_STEPS, reached, progress)?;
-        found = found.or(more);
+    for made in 0..to - from {
         if !is_going(machine) {
             progress.tell(to);
             return Ok(found);
         }
+        tell_at(progress, made, from + made);
+        let jump = watched_step(machine, reached)?;
+        found = found.or(jump);
     }
-    let more = watch_part(
-        machine,
-        to - (to - from) % TOLD_STEPS,
-        to,
-        reached,
-        progress,
-    )?;
-    Ok(found.or(more))
+    progress.tell(to);
+    Ok(found)
 }
 
 /// Runs the machine for n steps with changes, as `run_changed` does, and tells the first jump by register that leads to an address

@@ -2,7 +2,7 @@
 ghost use Rattle.std.specs.Prelude.{◌≡◌, ◌<◌, ◌++◌, None, Some, IfOk, OnOk, string_bytes};
 ghost use Rattle.std.specs.Option.{option_copied};
 ghost use Rattle.std.specs.Str.{is_utf8};
-ghost use Rattle.listing.specs.Roles.{role_at as role_at_of, rows_bytes, input_address as input_address_of, is_telling as is_telling_of, is_before as is_before_of, is_nearer as is_nearer_of, nearer as nearer_of, nearest as nearest_of, symbol_line, symbol_text, pair_text, sign_text, found_text, fired_text, word_text as word_text_of};
+ghost use Rattle.listing.specs.Roles.{role_at as role_at_of, rows_bytes, input_address as input_address_of, is_telling as is_telling_of, is_before as is_before_of, is_nearer as is_nearer_of, nearer as nearer_of, nearest as nearest_of, symbol_line, symbol_text, pair_text, found_text, fired_text, word_text as word_text_of};
 
 use crate::roles::push_role_line;
 use elf_types::{Bytes, Symbol};
@@ -138,20 +138,14 @@ fn pair_line(alloc: Global, register: Reg) -> Result<String, AllocError>
     format!(in alloc; "fired: x{number} and x{} differ\n", number + PAIR_DISTANCE)
 }
 
-/// The line about a signature that is not that of an input address.
-fn sign_line(alloc: Global, address: u64) -> Result<String, AllocError>
-    ensures { IfOk result (λ text. string_bytes text ≡ sign_text address) }
-{
-    let at = Address(address);
-    format!(in alloc; "fired: the signature is not that of {at}\n")
-}
-
 /// What a check of a role has found where it fires.
 fn found_line(alloc: Global, role: Role) -> Result<String, AllocError>
     ensures { IfOk result (λ text. string_bytes text ≡ found_text role) }
 {
     match role {
-        Role::Entry(at) | Role::Sign(at) => sign_line(alloc, at),
+        Role::Entry(at) | Role::Sign(at) => {
+            format!(in alloc; "fired: the signature is not that of {}\n", Address(at))
+        }
         Role::Guard(r, _) | Role::Compare(r, _, _) | Role::LeaveGuard(r, _) => pair_line(alloc, r),
         Role::End(r) | Role::CheckCompare(r) => pair_line(alloc, r),
         Role::Check => String::from_str(

@@ -51,27 +51,8 @@ fn within(
     }
 }
 
-/// All the bytes of a file that was opened. It reads one byte past the limit, which tells a longer file, and no more
-/// of it.
-fn read_whole<R: Read + Drop>(
-    opened: io::Result<R>,
-    alloc: Global,
-    limit: u64,
-    last_error: &mut Option<Error>,
-) -> Result<Bytes, LoadError>
-    ensures held { LoadsHeld R.remaining opened limit result }
-    ensures unopened { IfErr opened (λ error. result ≡ Err (load_error_of (error_kind error))) }
-{
-    match opened {
-        Ok(file) => {
-            let read = read_start(file, alloc, limit.saturating_add(1));
-            within(read, limit, last_error)
-        }
-        Err(error) => Err(load_error(error, last_error)),
-    }
-}
-
-/// Loads a file that was opened, and counts a fault exactly where it answers `Failed`. The machine's error is kept.
+/// Loads a file that was opened, and counts a fault exactly where it answers `Failed`. The machine's error is kept. It reads one byte past
+/// the limit, which tells a longer file, and no more of it.
 ///
 /// Errors: `TooLong` only where the file has more bytes than the limit, and `Failed` or `Memory` as the machine says.
 pub(crate) fn load_opened<R: Read + Drop>(
@@ -87,7 +68,14 @@ pub(crate) fn load_opened<R: Read + Drop>(
     ensures steady { result ≢ Err LoadError.Failed → faults.new ≡ faults.old }
     ensures not_fell { faults.old ≤ faults.new }
 {
-    let loaded = read_whole(opened, alloc, limit, last_error);
+    let loaded = match opened {
+        Ok(file) => within(
+            read_start(file, alloc, limit.saturating_add(1)),
+            limit,
+            last_error,
+        ),
+        Err(error) => Err(load_error(error, last_error)),
+    };
     if let Err(LoadError::Failed) = &loaded {
         *faults = faults.saturating_add(1);
     }

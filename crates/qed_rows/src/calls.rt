@@ -4,7 +4,7 @@ use crate::asked::words;
 use crate::bench::Bench;
 use crate::digest::digest_of;
 use campaign::Silent;
-use diagnose::advice;
+use diagnose::{EndedCall, advice};
 use qed_io::{Shelf, Sink};
 use qed_top::{exit_code, qed};
 use qed_words::order;
@@ -30,31 +30,31 @@ pub(crate) fn made<S: Shelf, K: Sink>(
     qed(alloc, words, shelf, out, &mut Silent::new()).code()
 }
 
-/// What a call prints, and the exit code.
+/// Makes a call, and gives what a line asks of it: what a person is told of it on a terminal, the size and the digest of what it
+/// prints, or this itself, with the exit code.
 pub(crate) fn call(
     alloc: Global,
     bench: &mut Bench,
+    what: &str,
     words: &[String],
 ) -> Result<String, AllocError> {
     let mut out = bench.sink(alloc)?;
     let code = made(alloc, words, &mut bench.shelf, &mut out);
-    printed(alloc, out.bytes(), code)
-}
-
-/// What a person is told of a call, on a terminal.
-fn advise(alloc: Global, bench: &mut Bench, words: &[String]) -> Result<String, AllocError> {
-    let mut out = bench.sink(alloc)?;
-    let _ = made(alloc, words, &mut bench.shelf, &mut out);
-    let printed = str::from_utf8(out.bytes()).unwrap_or("");
-    advice(alloc, words, printed, None, true, &mut bench.shelf)
-}
-
-/// The size and the digest of what a call prints, and the exit code.
-fn digest(alloc: Global, bench: &mut Bench, words: &[String]) -> Result<String, AllocError> {
-    let mut out = bench.sink(alloc)?;
-    let code = made(alloc, words, &mut bench.shelf, &mut out);
-    let text = digest_of(alloc, out.bytes())?;
-    format!(in alloc; "{text}\n= {code}\n")
+    match what {
+        "advice" => {
+            let call = EndedCall {
+                words,
+                printed: str::from_utf8(out.bytes()).unwrap_or(""),
+                reason: None,
+            };
+            advice(alloc, &call, true, &mut bench.shelf)
+        }
+        "digest" => {
+            let text = digest_of(alloc, out.bytes())?;
+            format!(in alloc; "{text}\n= {code}\n")
+        }
+        _ => printed(alloc, out.bytes(), code),
+    }
 }
 
 /// What words ask for.
@@ -72,10 +72,8 @@ pub(crate) fn tell_call(
 ) -> Result<String, AllocError> {
     let words = words(alloc, rest)?;
     match what {
-        "advice" => advise(alloc, bench, &words),
-        "digest" => digest(alloc, bench, &words),
         "order" => ask(alloc, &words),
-        _ => call(alloc, bench, &words),
+        _ => call(alloc, bench, what, &words),
     }
 }
 

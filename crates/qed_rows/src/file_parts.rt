@@ -17,7 +17,7 @@ fn named(name: &Bytes) -> &str {
 }
 
 fn segment(lines: &mut Lines, segment: &Segment, bytes: &str) -> Result<(), AllocError> {
-    lines.begin("segment")?;
+    lines.text("segment")?;
     lines.field("type", u64::from(segment.kind))?;
     lines.field("flags", u64::from(segment.flags))?;
     lines.field("at", segment.address)?;
@@ -28,7 +28,7 @@ fn segment(lines: &mut Lines, segment: &Segment, bytes: &str) -> Result<(), Allo
 }
 
 fn section(lines: &mut Lines, section: &Section) -> Result<(), AllocError> {
-    lines.begin("section")?;
+    lines.text("section")?;
     lines.word(named(&section.name))?;
     lines.field("type", u64::from(section.kind))?;
     lines.field("flags", section.flags)?;
@@ -38,7 +38,7 @@ fn section(lines: &mut Lines, section: &Section) -> Result<(), AllocError> {
 }
 
 fn symbol(lines: &mut Lines, symbol: &Symbol) -> Result<(), AllocError> {
-    lines.begin("symbol")?;
+    lines.text("symbol")?;
     lines.word(named(&symbol.name))?;
     lines.field("value", symbol.value)?;
     lines.field("size", symbol.size)?;
@@ -50,7 +50,7 @@ fn symbol(lines: &mut Lines, symbol: &Symbol) -> Result<(), AllocError> {
 }
 
 fn relocation(lines: &mut Lines, rela: &Rela, addend: &str) -> Result<(), AllocError> {
-    lines.begin("relocation")?;
+    lines.text("relocation")?;
     lines.field("at", rela.place)?;
     lines.count("type", u64::from(rela.kind))?;
     lines.count("symbol", u64::from(rela.symbol))?;
@@ -60,7 +60,7 @@ fn relocation(lines: &mut Lines, rela: &Rela, addend: &str) -> Result<(), AllocE
 }
 
 fn header(lines: &mut Lines, file: &ElfFile) -> Result<(), AllocError> {
-    lines.begin("entry")?;
+    lines.text("entry")?;
     lines.hex(file.entry)?;
     lines.field("flags", u64::from(file.flags))?;
     lines.end()

@@ -18,11 +18,6 @@ impl Lines {
         }
     }
 
-    /// Begins a line by a word.
-    pub(crate) fn begin(&mut self, word: &str) -> Result<(), AllocError> {
-        self.text.push_str(word)
-    }
-
     /// Appends a text as it stands.
     pub(crate) fn text(&mut self, text: &str) -> Result<(), AllocError> {
         self.text.push_str(text)

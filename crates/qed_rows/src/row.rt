@@ -167,7 +167,7 @@ pub(crate) fn tell(rt: &HostRuntime, bench: &mut Bench, line: &str) -> Result<St
             Ok(String::new(alloc))
         }
         "qed" | "advice" | "digest" | "order" => tell_call(alloc, bench, what, rest),
-        "alone" => call(alloc, bench, &[]),
+        "alone" => call(alloc, bench, what, &[]),
         "arguments" | "unreadable" | "starved" => start(alloc, bench, what, rest),
         "show" => show(alloc, bench, rest),
         _ => tell_file(rt, bench, what, rest),

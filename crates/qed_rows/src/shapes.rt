@@ -31,7 +31,7 @@ fn shape_of(text: &str) -> Option<Shape> {
 }
 
 fn line(lines: &mut Lines, bounds: &Bounds) -> Result<(), AllocError> {
-    lines.begin("piece")?;
+    lines.text("piece")?;
     lines.number(bounds.piece)?;
     lines.count("register", bounds.register)?;
     match bounds.word {

@@ -14,14 +14,14 @@ use std::alloc::{AllocError, Global};
 use test_admission::admit;
 
 fn range(lines: &mut Lines, what: &str, range: &Range) -> Result<(), AllocError> {
-    lines.begin(what)?;
+    lines.text(what)?;
     lines.hex(range.start)?;
     lines.field("to", range.end)?;
     lines.end()
 }
 
 fn places(lines: &mut Lines, test: &Test) -> Result<(), AllocError> {
-    lines.begin("entry")?;
+    lines.text("entry")?;
     lines.hex(test.entry)?;
     lines.field("image", test.low)?;
     lines.field("to", test.high)?;
@@ -31,13 +31,13 @@ fn places(lines: &mut Lines, test: &Test) -> Result<(), AllocError> {
 }
 
 fn at(lines: &mut Lines, what: &str, address: u64) -> Result<(), AllocError> {
-    lines.begin(what)?;
+    lines.text(what)?;
     lines.hex(address)?;
     lines.end()
 }
 
 fn with_text(lines: &mut Lines, what: &str, address: u64, text: &str) -> Result<(), AllocError> {
-    lines.begin(what)?;
+    lines.text(what)?;
     lines.hex(address)?;
     lines.word(text)?;
     lines.end()

@@ -1,8 +1,9 @@
 -- The file that a command reads: what is answered over it, as to its status and to what is stored.
 use Rattle.std.proofs.Common.{◌≡◌, ℕ, List, Option, None, Some, IfSome, inl, inr, sym, ap, ◌∙◌, subst, arith}
 use Rattle.std.specs.Prelude.{IsSomeAnd}
+use Rattle.qed_io.specs.declared.shelf.Shelf.{Ghosts}
 use Rattle.machine.specs.declared.limits.Limit as limits
-use Rattle.qed_top.specs.Answer.{CallsFor, read_fault, too_long, within, PrintsOnly, ShelfSteady, SteadyOrReadFault, StoreRose, limit_of}
+use Rattle.qed_top.specs.Answer.{CallsFor, read_fault, too_long, within, PrintsOnly, IsSteady, SteadyOrReadFault, StoreRose, limit_of}
 use Rattle.qed_top.specs.Loads.{Decided}
 use Rattle.qed_top.specs.Loads as decide
 use Rattle.qed_top.specs.Refused.{Makes, MakesDecides, ReadOn, ReadOnDecides, refused, made, not_made, is_made, not_read, read_on, is_not_read, is_read, error_status, refusal_status, ElfFile, Options, IsTransformable}
@@ -104,12 +105,15 @@ made_settled bytes o Uses Then answer t can h (made m) (is_made f u) = h m u
 
 -- ---- counts of faults
 -- counts that did not change in either of two parts
-pub steady_both : (l0 l1 l2 s0 s1 s2 : List ℕ → ℕ) → ShelfSteady l0 l1 s0 s1 → ShelfSteady l1 l2 s1 s2 → ShelfSteady l0 l2 s0 s2
-steady_both l0 l1 l2 s0 s1 s2 a b = record { load = λ name. b.load name ∙ a.load name; store = λ name. b.store name ∙ a.store name }
+module _ {S : Type 0} (shelf : Ghosts S) (old middle new : S) where
+  pub steady_both : IsSteady shelf old middle → IsSteady shelf middle new → IsSteady shelf old new
+  steady_both a b = record { load = λ name. b.load name ∙ a.load name; store = λ name. b.store name ∙ a.store name }
 
--- the same, where the second part may tell of a read fault
-pub steady_since :
-    (l0 l1 l2 s0 s1 s2 : List ℕ → ℕ) (answer : Answer) → ShelfSteady l0 l1 s0 s1 → SteadyOrReadFault (ShelfSteady l1 l2 s1 s2) answer
-    → SteadyOrReadFault (ShelfSteady l0 l2 s0 s2) answer
-steady_since l0 l1 l2 s0 s1 s2 answer a (inl b) = inl (steady_both l0 l1 l2 s0 s1 s2 a b)
-steady_since l0 l1 l2 s0 s1 s2 answer a (inr plain) = inr plain
+  -- the same, where one part may tell of a read fault
+  pub steady_since : (answer : Answer) → IsSteady shelf old middle → SteadyOrReadFault (IsSteady shelf middle new) answer → SteadyOrReadFault (IsSteady shelf old new) answer
+  steady_since answer a (inl b) = inl (steady_both a b)
+  steady_since answer a (inr plain) = inr plain
+
+  pub steady_then : (answer : Answer) → SteadyOrReadFault (IsSteady shelf old middle) answer → IsSteady shelf middle new → SteadyOrReadFault (IsSteady shelf old new) answer
+  steady_then answer (inl a) b = inl (steady_both a b)
+  steady_then answer (inr plain) b = inr plain

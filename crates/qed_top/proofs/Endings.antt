@@ -4,12 +4,14 @@ use Rattle.std.specs.Prelude.{MatchOption, MatchResult, Result, Ok, Err, IfOk, I
 use Rattle.std.proofs.lemmas.List.Elements.{All-head, recursion_from_All}
 use Rattle.std.specs.Io.KnownBytes.{Appends}
 use Rattle.qed_io.specs.Sink.{AppendsPart}
+use Rattle.qed_io.specs.declared.shelf.Shelf as shelves
+use Rattle.qed_io.specs.declared.sink.Sink as sinks
 use Rattle.machine.specs.declared.limits.Limit.TheVariants as limit
 use Rattle.qed_words.specs.declared.orders.Order.TheVariants as order
 use Rattle.qed_model.specs.declared.role.Role.{Role}
 use Rattle.listing.specs.Roles.{role_at, word_text}
 use Rattle.report.specs.Admission.{no_word_line}
-use Rattle.qed_top.specs.Answer.{PrintsOnly, FilesAfter, FilesInPart, StoreRose, ShelfSteady, SteadyOrReadFault, limit_of, Rose, RoseAt, NoneFell}
+use Rattle.qed_top.specs.Answer.{PrintsOnly, FilesAfter, FilesInPart, StoreRose, IsSteady, LoadRose, SteadyOrReadFault, limit_of, RoseAt, NoneFell}
 use Rattle.qed_top.specs.Refused.{ReadOn, not_read, read_on, admit_status, error_status, refusal_status, ElfFile}
 use Rattle.qed_top.specs.Makes.{IsMade, Delivers, TellsPlan}
 use Rattle.qed_top.specs.Run.{InMemory, InMemoryDecides, outcome_status, run_of, HasRun, FileRuns, Watches, unread_test, no_test, watched, RunsAs, default_options, Change, Outcome}
@@ -25,7 +27,7 @@ use Rattle.transform.specs.declared.error.TransformError.TheVariants as transfor
 use Rattle.transform.specs.declared.explained.Explained.{Explained}
 use Rattle.qed_top.specs.Loads.{Decided, Loads, OverLoads, Files, file_bytes}
 use Rattle.qed_top.specs.Orders.{AnswersOver, OrderCallsFor, WordsCallFor, listed, source_limit, source_name, source_names, stored_name, Order, Transform, Plan, Explain, Run, Campaign, Gen, Asm, Harts, Tell, asked, Reason}
-use Rattle.qed_top.specs.Ends.{Call, load_rose, store_rose, IsAnswered, EndsOver, Ends, ReadDecides, RunDecides, ran_status, DecidesOver, OrderDecides, Decides, NoFault, IsComplete}
+use Rattle.qed_top.specs.Ends.{Call, call_on, load_rose, store_rose, sink_rose, KeepsShelf, IsAnswered, EndsOver, Ends, ReadDecides, RunDecides, ran_status, DecidesOver, OrderDecides, Decides, NoFault, IsComplete}
 use Rattle.qed_top.specs.Ends as decide
 use Rattle.qed_top.specs.declared.answer.Answer.{Answer}
 use Rattle.qed_top.specs.declared.answer.Stored.{Stored}
@@ -38,7 +40,7 @@ use Rattle.qed_top.proofs.Statuses.{error_refuses, admit_refuses, Printed, outco
 use Rattle.qed_top.specs.Headline.{HoldsOver, Answers}
 use Rattle.qed_top.proofs.Headlines.{holds_headline}
 use Rattle.qed_top.proofs.Meanings.{CallsBy, WordsBy, always_loads, loads_map, calls_more}
-use Rattle.qed_top.proofs.Calls.{Tells, steady_both, tells, refusal_tells, stores_tells, calls_tells, read_tells, memory_tells, made_tells, calls_settled, read_settled, memory_settled, made_settled, no_store}
+use Rattle.qed_top.proofs.Calls.{Tells, steady_then, tells, refusal_tells, stores_tells, calls_tells, read_tells, memory_tells, made_tells, calls_settled, read_settled, memory_settled, made_settled, no_store}
 use Rattle.qed_top.proofs.WorldEnds.{files_later, files_settled, files_tells}
 
 -- ---- counts
@@ -301,73 +303,62 @@ answered call status e =
     loads_map call.old (λ loads. EndsOver call loads status) (HoldsOver call status)
     (λ loads o. record { headline = holds_headline call loads status o; ends = o; complete = ends_complete call loads status o }) e
 
-abbrev pub the_call :
-    List (List ℕ) → Option Files → Option Files → (List ℕ → ℕ) → (List ℕ → ℕ) → (List ℕ → ℕ) → (List ℕ → ℕ) → Option (List ℕ) → Option (List ℕ) → ℕ
-    → ℕ → Call
-the_call words old new l0 l2 s0 s2 was now k0 k2 = record {
-  words = words;
-  old = old;
-  new = new;
-  was = was;
-  now = now;
-  before = record { load = l0; store = s0; sink = k0 };
-  after = record { load = l2; store = s2; sink = k2 };
-}
-
-steady_then :
-    (l0 l1 l2 s0 s1 s2 : List ℕ → ℕ) (answer : Answer) → SteadyOrReadFault (ShelfSteady l0 l1 s0 s1) answer → ShelfSteady l1 l2 s1 s2
-    → SteadyOrReadFault (ShelfSteady l0 l2 s0 s2) answer
-steady_then l0 l1 l2 s0 s1 s2 answer (inl a) b = inl (steady_both l0 l1 l2 s0 s1 s2 a b)
-steady_then l0 l1 l2 s0 s1 s2 answer (inr plain) b = inr plain
-
-module _ (words : List (List ℕ)) (old middle new : Option Files) (l0 l1 l2 s0 s1 s2 : List ℕ → ℕ) (was now : Option (List ℕ)) (k0 k2 : ℕ) (answer : Answer) (same : middle ≡ old) (meant : OverLoads old (λ f. WordsCallFor words f (RoseAt l0 l1) answer)) (loads : NoneFell l1 l2) (stores : NoneFell s0 s1) where
-  later : OverLoads old (λ f. WordsCallFor words f (RoseAt l0 l2) answer)
-  later = loads_map old (λ f. WordsCallFor words f (RoseAt l0 l1) answer) (λ f. WordsCallFor words f (RoseAt l0 l2) answer) (λ f m. meant_later words f (RoseAt l0 l1) (RoseAt l0 l2) (rose_later l0 l1 l2 loads) answer m) meant
-
-  since : (stored : Option Stored) → StoreRose stored (RoseAt s1 s2) → StoreRose stored (RoseAt s0 s2)
-  since None r = r
-  since (Some s) r = rose_since s0 s1 s2 stores s.name r
-
+-- what was decided on a shelf, from one state to another, and then carried out
+module _ {S K : Type 0} (shelf : shelves.Ghosts S) (sink : sinks.Ghosts K) (words : List (List ℕ)) (start decided end : S) (first last : K) (answer : Answer) (same : shelf.files decided ≡ shelf.files start) (meant : OverLoads (shelf.files start) (λ f. WordsCallFor words f (LoadRose shelf start decided) answer)) (loads : NoneFell (shelf.load_faults decided) (shelf.load_faults end)) (stores : NoneFell (shelf.store_faults start) (shelf.store_faults decided)) where
   abbrev pub this : Call
-  this = the_call words old new l0 l2 s0 s2 was now k0 k2
+  this = call_on shelf sink words start end first last
 
-  ends : (status : Status) → ((loads : Loads) → WordsCallFor words loads (RoseAt l0 l2) answer → EndsOver this loads status) → Answers this status
-  ends status h = answered this status (loads_map old (λ f. WordsCallFor words f (RoseAt l0 l2) answer) (λ f. EndsOver this f status) h later)
+  later : OverLoads this.old (λ f. WordsCallFor words f (load_rose this) answer)
+  later =
+      loads_map this.old (λ f. WordsCallFor words f (LoadRose shelf start decided) answer) (λ f. WordsCallFor words f (load_rose this) answer)
+      (λ f m. meant_later words f (LoadRose shelf start decided) (load_rose this) (rose_later (shelf.load_faults start) (shelf.load_faults decided) (shelf.load_faults end) loads) answer m) meant
 
-  after : FilesAfter answer.stored middle new → FilesAfter answer.stored old new
-  after stored = subst (λ (o : Option Files). FilesAfter answer.stored o new) same stored
+  since : (stored : Option Stored) → StoreRose stored (RoseAt (shelf.store_faults decided) (shelf.store_faults end)) → StoreRose stored (store_rose this)
+  since None r = r
+  since (Some s) r = rose_since (shelf.store_faults start) (shelf.store_faults decided) (shelf.store_faults end) stores s.name r
 
-  pub done_ended : FilesAfter answer.stored middle new → Appends was now answer.text → Answers this answer.status
+  ends : (status : Status) → ((loads : Loads) → WordsCallFor words loads (load_rose this) answer → EndsOver this loads status) → Answers this status
+  ends status h = answered this status (loads_map this.old (λ f. WordsCallFor words f (load_rose this) answer) (λ f. EndsOver this f status) h later)
+
+  after : FilesAfter answer.stored (shelf.files decided) this.new → FilesAfter answer.stored this.old this.new
+  after stored = subst (λ (o : Option Files). FilesAfter answer.stored o this.new) same stored
+
+  pub done_ended : FilesAfter answer.stored (shelf.files decided) this.new → Appends this.was this.now answer.text → Answers this answer.status
   done_ended stored text =
       ends answer.status
-      (λ f m. did_ends this f answer.status (words_tells (asked words) f (RoseAt l0 l2) answer m).printed (record { answer = answer; meant = m; same_status = refl; stored = after stored; printed = text }))
+      (λ f m. did_ends this f answer.status (words_tells (asked words) f (load_rose this) answer m).printed (record { answer = answer; meant = m; same_status = refl; stored = after stored; printed = text }))
 
-  pub print_ended : FilesAfter answer.stored middle new → AppendsPart was now answer.text → Rose k0 k2 → Answers this WriteFault
+  pub print_ended : FilesAfter answer.stored (shelf.files decided) this.new → AppendsPart this.was this.now answer.text → sink_rose this → Answers this WriteFault
   print_ended stored text rose = ends WriteFault (λ f m. inl (rose, record { answer = answer; meant = m; stored = after stored; printed = text }))
 
-  pub store_ended : StoreRose answer.stored (RoseAt s1 s2) → FilesInPart answer.stored middle new → now ≡ was → Answers this WriteFault
+  pub store_ended :
+      StoreRose answer.stored (RoseAt (shelf.store_faults decided) (shelf.store_faults end)) → FilesInPart answer.stored (shelf.files decided) this.new
+      → this.now ≡ this.was → Answers this WriteFault
   store_ended cause stored text =
-      let part = subst (λ (o : Option Files). FilesInPart answer.stored o new) same stored in
+      let part = subst (λ (o : Option Files). FilesInPart answer.stored o this.new) same stored in
       ends WriteFault (λ f m. inr (record { answer = answer; meant = m; cause = since answer.stored cause; stored = part; printed = text }))
 
   short :
-      (f : Loads) → WordsCallFor words f (RoseAt l0 l2) answer → SteadyOrReadFault (ShelfSteady l0 l2 s0 s2) answer → k2 ≡ k0
-      → (IsSome answer.stored × (new ≡ middle) × (now ≡ was)) ⊎ (FilesAfter answer.stored middle new × AppendsPart was now answer.text) → EndsOver this f Memory
-  short f m steady sink (inl none) = inl (record { stored = none.1 ∙ same; printed = none.2; shelf = steady_store (ShelfSteady l0 l2 s0 s2) answer steady none.0; sink = sink })
-  short f m steady sink (inr part) = inr (record {
+      (f : Loads) → WordsCallFor words f (load_rose this) answer → SteadyOrReadFault (KeepsShelf this) answer → this.after.sink ≡ this.before.sink
+      → (IsSome answer.stored × (this.new ≡ shelf.files decided) × (this.now ≡ this.was)) ⊎ (FilesAfter answer.stored (shelf.files decided) this.new × AppendsPart this.was this.now answer.text)
+      → EndsOver this f Memory
+  short f m steady calm (inl none) = inl (record { stored = none.1 ∙ same; printed = none.2; shelf = steady_store (KeepsShelf this) answer steady none.0; sink = calm })
+  short f m steady calm (inr part) = inr (record {
     stopped = record { answer = answer; meant = m; stored = after part.0; printed = part.1 };
-    shelf = steady_other (ShelfSteady l0 l2 s0 s2) answer steady;
-    sink = sink;
+    shelf = steady_other (KeepsShelf this) answer steady;
+    sink = calm;
   })
 
   pub memory_ended :
-      SteadyOrReadFault (ShelfSteady l0 l1 s0 s1) answer → ShelfSteady l1 l2 s1 s2 → k2 ≡ k0
-      → (IsSome answer.stored × (new ≡ middle) × (now ≡ was)) ⊎ (FilesAfter answer.stored middle new × AppendsPart was now answer.text) → Answers this Memory
-  memory_ended decided carried sinks part = ends Memory (λ f m. short f m (steady_then l0 l1 l2 s0 s1 s2 answer decided carried) sinks part)
+      SteadyOrReadFault (IsSteady shelf start decided) answer → IsSteady shelf decided end → this.after.sink ≡ this.before.sink
+      → (IsSome answer.stored × (this.new ≡ shelf.files decided) × (this.now ≡ this.was)) ⊎ (FilesAfter answer.stored (shelf.files decided) this.new × AppendsPart this.was this.now answer.text)
+      → Answers this Memory
+  memory_ended before carried calm part = ends Memory (λ f m. short f m (steady_then shelf start decided end answer before carried) calm part)
 
+-- nothing was decided
 pub soon_ended :
-    (words : List (List ℕ)) (old new : Option Files) (l0 l2 s0 s2 : List ℕ → ℕ) (was now : Option (List ℕ)) (k0 k2 : ℕ) → new ≡ old → now ≡ was
-    → ShelfSteady l0 l2 s0 s2 → k2 ≡ k0 → Answers (the_call words old new l0 l2 s0 s2 was now k0 k2) Memory
-soon_ended words old new l0 l2 s0 s2 was now k0 k2 stored text shelf sinks =
-    let call = the_call words old new l0 l2 s0 s2 was now k0 k2 in
-    answered call Memory (always_loads old (λ f. EndsOver call f Memory) (λ f. inl (record { stored = stored; printed = text; shelf = shelf; sink = sinks })))
+    {S K : Type 0} (shelf : shelves.Ghosts S) (sink : sinks.Ghosts K) (words : List (List ℕ)) (start decided : S) (first : K) → shelf.files decided ≡ shelf.files start
+    → IsSteady shelf start decided → Answers (call_on shelf sink words start decided first first) Memory
+soon_ended shelf sink words start decided first same steady =
+    let call = call_on shelf sink words start decided first first in
+    answered call Memory (always_loads call.old (λ f. EndsOver call f Memory) (λ f. inl (record { stored = same; printed = refl; shelf = steady; sink = refl })))

@@ -1,30 +1,32 @@
 -- From how a call ends to how the program exits.
-use Rattle.std.proofs.Common.{◌≡◌, ℕ, List, Option, refl, subst}
+use Rattle.std.proofs.Common.{◌≡◌, ℕ, List, refl, subst}
 use Rattle.std.specs.Process.{exit_status}
 use Rattle.std.specs.declared.process.ExitCode.{ExitCode}
-use Rattle.qed_io.specs.Files.{Files}
+use Rattle.qed_io.specs.declared.shelf.Shelf as shelves
+use Rattle.qed_io.specs.declared.sink.Sink as sinks
 use Rattle.qed_top.specs.Codes.{status_code}
+use Rattle.qed_top.specs.Ends.{call_on}
 use Rattle.qed_top.specs.Headline.{Answers}
 use Rattle.qed_top.specs.Program.{Exits}
 use Rattle.qed_top.specs.declared.status.Status.{Status}
 use Rattle.qed_top.specs.declared.status.Status.TheVariants.{Memory}
-use Rattle.qed_top.proofs.Endings.{the_call, soon_ended}
+use Rattle.qed_top.proofs.Endings.{soon_ended}
 
-module _ (words : List (List ℕ)) (old new : Option Files) (l0 l2 s0 s2 : List ℕ → ℕ) (was now : Option (List ℕ)) (k0 k2 : ℕ) (code : ExitCode) where
+module _ {S K : Type 0} (shelf : shelves.Ghosts S) (sink : sinks.Ghosts K) (words : List (List ℕ)) (code : ExitCode) (start : S) (first : K) where
   -- the call was made with other names for the same words
   pub ended_exits :
-      (called : List (List ℕ)) (status : Status) → called ≡ words → exit_status code ≡ status_code status
-      → Answers (the_call called old new l0 l2 s0 s2 was now k0 k2) status
-      → Exits (the_call words old new l0 l2 s0 s2 was now k0 k2) code
-  ended_exits called status same is answers = record {
+      (end : S) (last : K) (called : List (List ℕ)) (status : Status) → called ≡ words → exit_status code ≡ status_code status
+      → Answers (call_on shelf sink called start end first last) status → Exits (call_on shelf sink words start end first last) code
+  ended_exits end last called status same is answers = record {
     status = status;
     code_of = is;
-    answers = subst (λ (w : List (List ℕ)). Answers (the_call w old new l0 l2 s0 s2 was now k0 k2) status) same answers;
+    answers = subst (λ (w : List (List ℕ)). Answers (call_on shelf sink w start end first last) status) same answers;
   }
 
--- the call was not made, for want of memory
-pub soon_exits :
-    (words : List (List ℕ)) (old : Option Files) (l0 s0 : List ℕ → ℕ) (was : Option (List ℕ)) (k0 : ℕ) (code : ExitCode) → exit_status code ≡ status_code Memory
-    → Exits (the_call words old old l0 l0 s0 s0 was was k0 k0) code
-soon_exits words old l0 s0 was k0 code is =
-    record { status = Memory; code_of = is; answers = soon_ended words old old l0 l0 s0 s0 was was k0 k0 refl refl (record { load = λ name. refl; store = λ name. refl }) refl }
+  -- the call was not made, for want of memory
+  pub soon_exits : exit_status code ≡ status_code Memory → Exits (call_on shelf sink words start start first first) code
+  soon_exits is = record {
+    status = Memory;
+    code_of = is;
+    answers = soon_ended shelf sink words start start first refl (record { load = λ name. refl; store = λ name. refl });
+  }

@@ -10,9 +10,7 @@ use Rattle.qed_words.specs.Text.Plan.{read_fault_line}
 use Rattle.machine.specs.Program.{start, zeros}
 use Rattle.machine.specs.Loading.{loaded_file, ElfFile}
 use Rattle.machine.specs.Progress.{Progress, begun}
-use Rattle.qed_model.specs.Promise.Changed.{changed_run}
 use Rattle.fault_inject.specs.Astray.{first_astray}
-use Rattle.fault_inject.specs.Counted.{changed_steps}
 use Rattle.qed_top.specs.Answer.{PrintsOnly, CallsFor, read_fault, too_long, within, limit_of, limit_line}
 use Rattle.qed_top.specs.Run.{memory_bytes, memory_limit, outcome_status, run_of, FileRuns, is_reached_word, astray_of, run_text, Test, Change, Outcome}
 use Rattle.qed_top.specs.Run as run
@@ -153,15 +151,6 @@ over_usage told words reason rose answer e plain =
     always_loads told (λ loads. WordsCallFor words loads rose answer) (λ loads. subst (λ (ask : Result Order Reason). WordsBy ask loads rose answer) (sym e) plain)
 
 -- ---- `run`
--- a machine that was run with changes from the start of a file
-pub was_changed :
-    (f : ElfFile) (steps : ℕ) (changes : List Change) (machine ended : Progress) → machine ≡ begun (start (loaded_file f) zeros)
-    → ended.state ≡ changed_run machine.state changes steps → ended.steps ≡ changed_steps machine changes steps → ended ≡ run_of f steps changes
-was_changed f steps changes machine ended begins state count =
-    let first : ended.state ≡ changed_run (start (loaded_file f) zeros) changes steps = state ∙ ap (λ m. changed_run m.state changes steps) begins in
-    let second : ended.steps ≡ changed_steps (begun (start (loaded_file f) zeros)) changes steps = count ∙ ap (λ m. changed_steps m changes steps) begins in
-    (λ i. record { state = first i; steps = second i })
-
 -- what is told of its jumps, by a set of addresses
 pub was_told :
     (f : ElfFile) (t : Test) (steps : ℕ) (changes : List Change) (reached : ℕ → Bool) (machine : Progress) (astray : Option (ℕ × ℕ))

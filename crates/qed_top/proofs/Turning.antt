@@ -28,30 +28,32 @@ same_with None files loads a b = tt
 same_with (Some f) files loads a b = each_with f files loads a b
 
 -- ---- a file of the names
--- it was read, and then the others
-pub read_next :
-    (told : Option Files) (name : List ℕ) (names : List (List ℕ)) (fs : List ElfFile) (turns : Option (List ℕ)) (steps : ℕ) (rose : List ℕ → Type 0) (answer : Answer) (f : ElfFile)
-    → OverFiles told (λ files. IsTaken (file_bytes files name) f) → OverLoads told (λ loads. FilesCallFor names (fs ++ f ∷ []) turns steps loads rose answer)
-    → OverLoads told (λ loads. FilesCallFor (name ∷ names) fs turns steps loads rose answer)
-read_next told name names fs turns steps rose answer f o then = record {
-  loads = with_first o.files then.loads;
-  same = same_with told o.files then.loads o.same then.same;
-  holds = within o.holds.small (read_on f o.holds.read then.holds);
-}
+module _ (told : Option Files) (left : List (List ℕ)) (name : List ℕ) (names : List (List ℕ)) (fs : List ElfFile) (turns : Option (List ℕ)) (steps : ℕ) (rose : List ℕ → Type 0) (answer : Answer) (split : left ≡ name ∷ names) where
+  named : OverLoads told (λ loads. FilesCallFor (name ∷ names) fs turns steps loads rose answer) → OverLoads told (λ loads. FilesCallFor left fs turns steps loads rose answer)
+  named o = subst (λ (ns : List (List ℕ)). OverLoads told (λ loads. FilesCallFor ns fs turns steps loads rose answer)) (sym split) o
 
--- it is not had, or not read
-pub read_stops :
-    (told : Option Files) (name : List ℕ) (names : List (List ℕ)) (fs : List ElfFile) (turns : Option (List ℕ)) (steps : ℕ) (rose : Type 0) (later : List ℕ → Type 0) (answer : Answer)
-    → (rose → later name) → OverFiles told (λ files. CallsFor RunFileBytes (file_bytes files name) rose (IsUnread (file_bytes files name) answer) answer)
-    → OverLoads told (λ loads. FilesCallFor (name ∷ names) fs turns steps loads later answer)
-read_stops told name names fs turns steps rose later answer h o =
-    let bytes = file_bytes o.files name in
-    let next : ElfFile → Type 0 = λ f. FilesCallFor names (fs ++ f ∷ []) turns steps (λ k. o.files) later answer in
-    record {
-      loads = λ k. o.files;
-      same = same_each told o.files o.same;
-      holds = calls_more RunFileBytes bytes rose (later name) (IsUnread bytes answer) (ReadOn bytes next answer) answer h (λ u. not_read u) o.holds;
-    }
+  -- it was read, and then the others
+  pub read_next :
+      (more : List ElfFile) (f : ElfFile) → more ≡ fs ++ f ∷ [] → OverFiles told (λ files. IsTaken (file_bytes files name) f)
+      → OverLoads told (λ loads. FilesCallFor names more turns steps loads rose answer) → OverLoads told (λ loads. FilesCallFor left fs turns steps loads rose answer)
+  read_next more f pushed o then = named (record {
+    loads = with_first o.files then.loads;
+    same = same_with told o.files then.loads o.same then.same;
+    holds = within o.holds.small (read_on f o.holds.read (subst (λ (all : List ElfFile). FilesCallFor names all turns steps then.loads rose answer) pushed then.holds));
+  })
+
+  -- it is not had, or not read
+  pub read_stops :
+      (was : Type 0) → (was → rose name) → OverFiles told (λ files. CallsFor RunFileBytes (file_bytes files name) was (IsUnread (file_bytes files name) answer) answer)
+      → OverLoads told (λ loads. FilesCallFor left fs turns steps loads rose answer)
+  read_stops was h o =
+      let bytes = file_bytes o.files name in
+      let next : ElfFile → Type 0 = λ f. FilesCallFor names (fs ++ f ∷ []) turns steps (λ k. o.files) rose answer in
+      named (record {
+        loads = λ k. o.files;
+        same = same_each told o.files o.same;
+        holds = calls_more RunFileBytes bytes was (rose name) (IsUnread bytes answer) (ReadOn bytes next answer) answer h (λ u. not_read u) o.holds;
+      })
 
 -- a refusal is no want of memory, so its cause is known
 pub known_cause : {A B E : Type 0} (e memory : E) → A ⊎ ((e ≡ memory) × B) → e ≢ memory → A

@@ -2,6 +2,7 @@
 use Rattle.std.specs.Prelude.{◌≡◌, ◌⊎◌, ◌<◌, ◌≤◌, ℕ, List, length, Option, None, Some, IfSome, IsSomeAnd}
 use Rattle.std.specs.FinMap.{insert}
 use Rattle.qed_io.specs.Files.{Files, StoredInPart}
+use Rattle.qed_io.specs.declared.shelf.Shelf.{Ghosts}
 pub use Rattle.qed_io.specs.Counts.{NoneChanged, NoneFell, Rose, RoseAt}
 use Rattle.machine.specs.declared.limits.Limit as limits
 pub use Rattle.machine.specs.Limits.{limit_of}
@@ -60,6 +61,14 @@ StoreRose (Some s) rose = rose s.name
 pub record ShelfSteady (load_before load_now store_before store_now : List ℕ → ℕ) : Type 0 where
   pub load : NoneChanged load_before load_now
   pub store : NoneChanged store_before store_now
+
+-- none changed from one state of a shelf to another
+abbrev pub IsSteady : {S : Type 0} → Ghosts S → S → S → Type 0
+IsSteady shelf old new = ShelfSteady (shelf.load_faults old) (shelf.load_faults new) (shelf.store_faults old) (shelf.store_faults new)
+
+-- the count of failed loads of a name rose from the one to the other
+abbrev pub LoadRose : {S : Type 0} → Ghosts S → S → S → List ℕ → Type 0
+LoadRose shelf old new = RoseAt (shelf.load_faults old) (shelf.load_faults new)
 
 -- no count of the shelf's faults changed, or the answer tells of a read fault
 abbrev pub SteadyOrReadFault : Type 0 → Answer → Type 0

@@ -2,6 +2,8 @@
 use Rattle.std.specs.Prelude.{◌≡◌, ◌≢◌, ◌⊎◌, ℕ, Bool, true, false, List, [], Option, MatchOption, MatchResult, IfOk, IfSome, All}
 use Rattle.std.specs.Io.KnownBytes.{Appends}
 use Rattle.qed_io.specs.Sink.{AppendsPart}
+use Rattle.qed_io.specs.declared.shelf.Shelf as shelves
+use Rattle.qed_io.specs.declared.sink.Sink as sinks
 use Rattle.tests.specs.declared.admit.AdmitError.{AdmitError}
 use Rattle.qed_words.specs.declared.orders.Order.TheVariants as order
 use Rattle.tests.specs.Files.File.{IsReadAs}
@@ -36,6 +38,22 @@ pub record Call : Type 0 where
   pub now : Option (List ℕ)
   pub before : Faults
   pub after : Faults
+
+-- those of a shelf and a sink
+abbrev pub faults_of : {S K : Type 0} → shelves.Ghosts S → sinks.Ghosts K → S → K → Faults
+faults_of shelf sink kept written = record { load = shelf.load_faults kept; store = shelf.store_faults kept; sink = sink.faults written }
+
+-- the call on a shelf and a sink, by the states of both at its start and at its end
+abbrev pub call_on : {S K : Type 0} → shelves.Ghosts S → sinks.Ghosts K → List (List ℕ) → S → S → K → K → Call
+call_on shelf sink words start end first last = record {
+  words = words;
+  old = shelf.files start;
+  new = shelf.files end;
+  was = sink.written first;
+  now = sink.written last;
+  before = faults_of shelf sink start first;
+  after = faults_of shelf sink end last;
+}
 
 -- the count of failed loads of a name rose in the call
 abbrev pub load_rose : Call → List ℕ → Type 0

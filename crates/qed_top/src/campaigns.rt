@@ -13,6 +13,13 @@ use qed_model::{Draws, Options};
 use report::campaign_text;
 use std::alloc::{AllocError, Global};
 
+/// What is asked of a campaign: its strikes, and whether it is told of each end whether it is right.
+#[derive(Clone, Copy, Debug)]
+pub struct Asked {
+    pub draws: Draws,
+    pub results: bool,
+}
+
 /// The status where the input trapped at a pc, or where it did not.
 fn status_of(trapped: Option<u64>) -> Status
     ensures { result ≡ campaign_status trapped }
@@ -36,17 +43,15 @@ fn text_of(
     let struck = campaign.struck.as_slice();
     if results {
         let rights = course.rights(alloc, struck)?;
-        let text = campaign_text(
+        Ok(campaign_text(
             alloc,
             struck,
             Some(rights.as_slice()),
             course.plan(),
             campaign.trapped,
-        )?;
-        Ok(text)
+        )?)
     } else {
-        let text = campaign_text(alloc, struck, None, course.plan(), campaign.trapped)?;
-        Ok(text)
+        Ok(campaign_text(alloc, struck, None, course.plan(), campaign.trapped)?)
     }
 }
 
@@ -54,16 +59,15 @@ fn text_of(
 fn strike(
     alloc: Global,
     course: &Course,
-    draws: &Draws,
-    results: bool,
+    asked: &Asked,
     progress: &mut dyn Progress,
 ) -> Result<Answer, AllocError>
-    ensures { IfOk result (TellsCampaign course.now draws.now results) }
+    ensures { IfOk result (TellsCampaign course.now asked.now.draws asked.now.results) }
 {
-    let strikes = course.draw(alloc, draws)?;
+    let strikes = course.draw(alloc, &asked.draws)?;
     let reach = course.reach();
     let campaign = course.strike_all(alloc, &strikes, progress)?;
-    let text = text_of(alloc, course, &campaign, results)?;
+    let text = text_of(alloc, course, &campaign, asked.results)?;
     Ok(plain(status_of(campaign.trapped), text))
 }
 
@@ -72,21 +76,14 @@ pub fn answer_campaign(
     alloc: Global,
     bytes: &[u8],
     options: &Options,
-    draws: &Draws,
-    results: bool,
+    asked: &Asked,
     progress: &mut dyn Progress,
 ) -> Result<Answer, AllocError>
     requires { AreSoundOptions options.now }
-    ensures { IfOk result (Campaigns bytes.now options.now draws.now results) }
+    ensures { IfOk result (Campaigns bytes.now options.now asked.now.draws asked.now.results) }
 {
     match Course::prepare(alloc, bytes, options) {
-        Ok(course) => {
-            let answer = strike(alloc, &course, draws, results, progress)?;
-            Ok(answer)
-        }
-        Err(error) => {
-            let answer = refused(alloc, &error)?;
-            Ok(answer)
-        }
+        Ok(course) => Ok(strike(alloc, &course, asked, progress)?),
+        Err(error) => Ok(refused(alloc, &error)?),
     }
 }

@@ -1,9 +1,9 @@
 //! What the words and the files call for.
 ghost use Rattle.std.specs.Prelude.{◌≡◌, false, IfOk, OnErr};
-ghost use Rattle.qed_io.specs.Counts.{RoseAt, NoneFell};
+ghost use Rattle.qed_io.specs.Counts.{NoneFell};
 ghost use Rattle.qed_words.specs.Words.{texts};
 ghost use Rattle.qed_words.specs.Sound.{IsSoundOrder};
-ghost use Rattle.qed_top.specs.Answer.{ShelfSteady, SteadyOrReadFault};
+ghost use Rattle.qed_top.specs.Answer.{IsSteady, LoadRose, SteadyOrReadFault};
 ghost use Rattle.qed_top.specs.Loads.{OverFiles, OverLoads};
 ghost use Rattle.qed_top.specs.Orders.{OrderCallsFor, SourceCallsFor, WordsCallFor, reads_several};
 
@@ -26,27 +26,23 @@ fn decide_source<S: Shelf>(
 ) -> Result<Answer, AllocError>
     requires sound { IsSoundOrder order }
     requires one { reads_several order ≡ false }
-    ensures meant { IfOk result (λ answer. OverFiles (S.files shelf.old) (λ files. SourceCallsFor order files (RoseAt (S.load_faults shelf.old) (S.load_faults shelf.new)) answer)) }
+    ensures meant { IfOk result (λ answer. OverFiles (S.files shelf.old) (λ files. SourceCallsFor order files (LoadRose S.Shelf shelf.old shelf.new) answer)) }
     ensures files { S.files shelf.new ≡ S.files shelf.old }
     ensures stores { NoneFell (S.store_faults shelf.old) (S.store_faults shelf.new) }
-    ensures steady { IfOk result (SteadyOrReadFault (ShelfSteady (S.load_faults shelf.old) (S.load_faults shelf.new) (S.store_faults shelf.old) (S.store_faults shelf.new))) }
-    ensures memory { OnErr result (ShelfSteady (S.load_faults shelf.old) (S.load_faults shelf.new) (S.store_faults shelf.old) (S.store_faults shelf.new)) }
+    ensures steady { IfOk result (SteadyOrReadFault (IsSteady S.Shelf shelf.old shelf.new)) }
+    ensures memory { OnErr result (IsSteady S.Shelf shelf.old shelf.new) }
 {
     match source_name(&order) {
         Some(name) => {
             let read = read_file(alloc, name, source_limit(&order), shelf)?;
             match read {
-                Ok(bytes) => {
-                    let answer = answer_order(alloc, order, bytes, progress)?;
-                    Ok(answer)
-                }
+                Ok(bytes) => Ok(answer_order(alloc, order, bytes, progress)?),
                 Err(answer) => Ok(answer),
             }
         }
         None => {
             let none = Bytes::of(Vec::new(alloc));
-            let answer = answer_order(alloc, order, none, progress)?;
-            Ok(answer)
+            Ok(answer_order(alloc, order, none, progress)?)
         }
     }
 }
@@ -59,21 +55,21 @@ fn decide_order<S: Shelf>(
     progress: &mut dyn Progress,
 ) -> Result<Answer, AllocError>
     requires { IsSoundOrder order }
-    ensures meant { IfOk result (λ answer. OverLoads (S.files shelf.old) (λ loads. OrderCallsFor order loads (RoseAt (S.load_faults shelf.old) (S.load_faults shelf.new)) answer)) }
+    ensures meant { IfOk result (λ answer. OverLoads (S.files shelf.old) (λ loads. OrderCallsFor order loads (LoadRose S.Shelf shelf.old shelf.new) answer)) }
     ensures files { S.files shelf.new ≡ S.files shelf.old }
     ensures stores { NoneFell (S.store_faults shelf.old) (S.store_faults shelf.new) }
-    ensures steady { IfOk result (SteadyOrReadFault (ShelfSteady (S.load_faults shelf.old) (S.load_faults shelf.new) (S.store_faults shelf.old) (S.store_faults shelf.new))) }
-    ensures memory { OnErr result (ShelfSteady (S.load_faults shelf.old) (S.load_faults shelf.new) (S.store_faults shelf.old) (S.store_faults shelf.new)) }
+    ensures steady { IfOk result (SteadyOrReadFault (IsSteady S.Shelf shelf.old shelf.new)) }
+    ensures memory { OnErr result (IsSteady S.Shelf shelf.old shelf.new) }
 {
     match order {
-        Order::Harts(names, turns, steps) => {
-            let answer = answer_harts(alloc, names.as_slice(), turns, steps, shelf)?;
-            Ok(answer)
-        }
-        order => {
-            let answer = decide_source(alloc, order, shelf, progress)?;
-            Ok(answer)
-        }
+        Order::Harts(names, turns, steps) => Ok(answer_harts(
+            alloc,
+            names.as_slice(),
+            turns,
+            steps,
+            shelf,
+        )?),
+        order => Ok(decide_source(alloc, order, shelf, progress)?),
     }
 }
 
@@ -84,21 +80,15 @@ pub fn decide<S: Shelf>(
     shelf: &mut S,
     progress: &mut dyn Progress,
 ) -> Result<Answer, AllocError>
-    ensures meant { IfOk result (λ answer. OverLoads (S.files shelf.old) (λ loads. WordsCallFor (texts words.now) loads (RoseAt (S.load_faults shelf.old) (S.load_faults shelf.new)) answer)) }
+    ensures meant { IfOk result (λ answer. OverLoads (S.files shelf.old) (λ loads. WordsCallFor (texts words.now) loads (LoadRose S.Shelf shelf.old shelf.new) answer)) }
     ensures files { S.files shelf.new ≡ S.files shelf.old }
     ensures stores { NoneFell (S.store_faults shelf.old) (S.store_faults shelf.new) }
-    ensures steady { IfOk result (SteadyOrReadFault (ShelfSteady (S.load_faults shelf.old) (S.load_faults shelf.new) (S.store_faults shelf.old) (S.store_faults shelf.new))) }
-    ensures memory { OnErr result (ShelfSteady (S.load_faults shelf.old) (S.load_faults shelf.new) (S.store_faults shelf.old) (S.store_faults shelf.new)) }
+    ensures steady { IfOk result (SteadyOrReadFault (IsSteady S.Shelf shelf.old shelf.new)) }
+    ensures memory { OnErr result (IsSteady S.Shelf shelf.old shelf.new) }
 {
     match order(alloc, words) {
-        Ok(order) => {
-            let answer = decide_order(alloc, order, shelf, progress)?;
-            Ok(answer)
-        }
-        Err(WordsError::Usage(reason)) => {
-            let answer = usage(alloc, reason)?;
-            Ok(answer)
-        }
+        Ok(order) => Ok(decide_order(alloc, order, shelf, progress)?),
+        Err(WordsError::Usage(reason)) => Ok(usage(alloc, reason)?),
         Err(WordsError::Memory) => Err(AllocError),
     }
 }

@@ -19,16 +19,9 @@ fn word_number(base: u64, count: usize, at: u64) -> Option<usize>
     ensures place { IfSome result (λ number. at ≡ base + 4 * number) }
     ensures within { IfSome result (λ number. number < count) }
 {
-    if at < base {
-        return None;
-    }
-    let offset = at - base;
+    let offset = at.checked_sub(base)?;
     let number = (offset / 4) as usize;
-    if offset % 4 == 0 && number < count {
-        Some(number)
-    } else {
-        None
-    }
+    (offset % 4 == 0 && number < count).then_some(number)
 }
 
 /// What `explain` answers of the word at an address.
@@ -63,10 +56,7 @@ fn tell(alloc: Global, code: &Explained, at: Option<u64>) -> Result<Answer, Allo
             let text = role_text(alloc, roles, words, code.base)?;
             Ok(plain(Status::Done, text))
         }
-        Some(at) => {
-            let answer = tell_word(alloc, code, at)?;
-            Ok(answer)
-        }
+        Some(at) => Ok(tell_word(alloc, code, at)?),
     }
 }
 
@@ -81,13 +71,7 @@ pub fn answer_explain(
     ensures { IfOk result (Explains bytes.now options.now at) }
 {
     match explain(alloc, bytes, options) {
-        Ok(code) => {
-            let answer = tell(alloc, &code, at)?;
-            Ok(answer)
-        }
-        Err(error) => {
-            let answer = refused(alloc, &error)?;
-            Ok(answer)
-        }
+        Ok(code) => Ok(tell(alloc, &code, at)?),
+        Err(error) => Ok(refused(alloc, &error)?),
     }
 }

@@ -10,7 +10,6 @@ use crate::answer::{Answer, Stored};
 use crate::refusal::refused;
 use crate::status::Status;
 use elf_read::read_known;
-use elf_types::Bytes;
 use qed_model::Options;
 use qed_words::Name;
 use report::{Drawn, generated_text};
@@ -33,24 +32,23 @@ fn run(alloc: Global, bytes: &[u8]) -> Result<Machine, AllocError>
     Ok(machine)
 }
 
-/// What `gen` answers for a test and its output.
+/// What `gen` answers for a test that is stored, and its output.
 fn deliver(
     alloc: Global,
-    output: Name,
     seed: u64,
     size: u64,
-    test: Bytes,
+    stored: Stored,
     made: &Transformed,
 ) -> Result<Answer, AllocError>
     requires some { 1 ≤ size }
     requires small { size ≤ 60000 }
-    requires same { test ≡ test_bytes seed size }
-    requires test { IsReadable test }
+    requires same { stored.bytes ≡ test_bytes seed size }
+    requires test { IsReadable stored.bytes }
     requires made { Transforms (test_bytes seed size) default_options made.now.file made.now.plan }
     requires file { IsReadable made.now.file }
-    ensures { IfOk result (Generates output seed size made.now.file made.now.plan) }
+    ensures { IfOk result (Generates stored.name seed size made.now.file made.now.plan) }
 {
-    let own = run(alloc, test.as_slice())?;
+    let own = run(alloc, stored.bytes.as_slice())?;
     let woven = run(alloc, made.file.as_slice())?;
     let drawn = Drawn {
         seed,
@@ -61,10 +59,7 @@ fn deliver(
     Ok(Answer {
         status: Status::Done,
         text,
-        stored: Some(Stored {
-            name: output,
-            bytes: test,
-        }),
+        stored: Some(stored),
     })
 }
 
@@ -78,12 +73,12 @@ pub fn answer_gen(alloc: Global, output: Name, seed: u64, size: u64) -> Result<A
     let test = generate(alloc, seed, size)?;
     match transform(alloc, test.as_slice(), &Options::default()) {
         Ok(made) => {
-            let answer = deliver(alloc, output, seed, size, test, &made)?;
-            Ok(answer)
+            let stored = Stored {
+                name: output,
+                bytes: test,
+            };
+            Ok(deliver(alloc, seed, size, stored, &made)?)
         }
-        Err(error) => {
-            let answer = refused(alloc, &error)?;
-            Ok(answer)
-        }
+        Err(error) => Ok(refused(alloc, &error)?),
     }
 }

@@ -40,14 +40,8 @@ pub fn answer_transform(
     ensures { IfOk result (MakesOutput bytes.now options.now (Delivers output)) }
 {
     match transform(alloc, bytes, options) {
-        Ok(made) => {
-            let answer = deliver(alloc, made, output)?;
-            Ok(answer)
-        }
-        Err(error) => {
-            let answer = refused(alloc, &error)?;
-            Ok(answer)
-        }
+        Ok(made) => Ok(deliver(alloc, made, output)?),
+        Err(error) => Ok(refused(alloc, &error)?),
     }
 }
 
@@ -65,13 +59,7 @@ pub fn answer_plan(alloc: Global, bytes: &[u8], options: &Options) -> Result<Ans
     ensures { IfOk result (MakesOutput bytes.now options.now TellsPlan) }
 {
     match transform(alloc, bytes, options) {
-        Ok(made) => {
-            let answer = tell(alloc, &made.plan)?;
-            Ok(answer)
-        }
-        Err(error) => {
-            let answer = refused(alloc, &error)?;
-            Ok(answer)
-        }
+        Ok(made) => Ok(tell(alloc, &made.plan)?),
+        Err(error) => Ok(refused(alloc, &error)?),
     }
 }

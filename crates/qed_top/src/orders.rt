@@ -7,12 +7,12 @@ ghost use Rattle.qed_top.specs.Orders.{AnswersOver, IsUsage, reads_several, sour
 
 use crate::answer::{Answer, plain};
 use crate::asm::answer_asm;
-use crate::campaigns::answer_campaign;
+use crate::campaigns::{Asked, answer_campaign};
 use crate::explained::answer_explain;
 use crate::generated::answer_gen;
 use crate::list::answer_list;
 use crate::make::{answer_plan, answer_transform};
-use crate::run::answer_run;
+use crate::run::{Way, answer_run};
 use crate::status::Status;
 use campaign::Progress;
 use elf_types::Bytes;
@@ -82,24 +82,25 @@ pub fn answer_order(
         }
         Order::Run(_, steps, changes, dump, reached) => {
             let shared = bytes.into_shared(alloc)?;
-            let changes = changes.as_slice();
-            Ok(answer_run(alloc, &shared, steps, changes, dump, reached, progress)?)
+            let way = Way {
+                steps,
+                changes,
+                dump,
+            };
+            Ok(answer_run(alloc, &shared, &way, reached, progress)?)
         }
         Order::Gen(output, seed, size) => Ok(answer_gen(alloc, output, seed, size)?),
         Order::List(_) => Ok(answer_list(alloc, bytes.as_slice())?),
         Order::Asm(_, output) => Ok(answer_asm(alloc, bytes.as_slice(), output)?),
-        Order::Campaign(_, options, draws, results) => Ok(answer_campaign(
-            alloc,
-            bytes.as_slice(),
-            &options,
-            &draws,
-            results,
-            progress,
-        )?),
+        Order::Campaign(_, options, draws, results) => {
+            let asked = Asked { draws, results };
+            Ok(answer_campaign(alloc, bytes.as_slice(), &options, &asked, progress)?)
+        }
         Order::Tell(topic) => {
             let text = told_text(alloc, topic)?;
             Ok(plain(Status::Done, text))
         }
-        Order::Harts(_, _, _) => unreachable!(),
+        // It reads several files, and one is too few.
+        Order::Harts(_, _, _) => Ok(usage(alloc, Reason::MissingFile)?),
     }
 }

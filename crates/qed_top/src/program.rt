@@ -5,13 +5,14 @@ ghost use Rattle.std.specs.Vec.Iter.{into_iter_items};
 ghost use Rattle.std.specs.Process.{exit_status};
 ghost use Rattle.qed_top.specs.Codes.{status_code};
 ghost use Rattle.qed_words.specs.Words.{texts};
+ghost use Rattle.qed_top.specs.Ends.{call_on};
 ghost use Rattle.qed_top.specs.Program.{words_after, Exits, ExitsUntold};
 
 use crate::status::Status;
 use crate::ticker::Ticker;
 use crate::top::qed;
 use campaign::Progress;
-use diagnose::{Heard, complain};
+use diagnose::{EndedCall, Heard, complain};
 use qed_io::{DirShelf, Shelf, Sink, StdSink};
 use std::alloc::{AllocError, Global};
 use std::env::Args;
@@ -59,15 +60,7 @@ pub fn exit_code<S: Shelf, K: Sink>(
     out: &mut K,
     progress: &mut dyn Progress,
 ) -> ExitCode
-    ensures exits { Exits (record {
-      words = words_after arguments;
-      old = S.files shelf.old;
-      new = S.files shelf.new;
-      was = K.written out.old;
-      now = K.written out.new;
-      before = record { load = S.load_faults shelf.old; store = S.store_faults shelf.old; sink = K.faults out.old };
-      after = record { load = S.load_faults shelf.new; store = S.store_faults shelf.new; sink = K.faults out.new };
-    }) result }
+    ensures exits { Exits (call_on S.Shelf K.Sink (words_after arguments) shelf.old shelf.new out.old out.new) result }
     // Where the machine had no memory for the arguments, the call was not made.
     ensures no_memory { IfErr arguments (λ error. error_kind error ≡ ErrorKind.OutOfMemory → exit_status result ≡ status_code Status.Memory) }
     ensures not_made { IfErr arguments (λ error. error_kind error ≡ ErrorKind.OutOfMemory → (shelf.new ≡ shelf.old) × (out.new ≡ out.old)) }
@@ -100,7 +93,12 @@ pub fn run_program(rt: &HostRuntime) -> ExitCode
         &mut Ticker::of(rt),
     );
     if let Ok(words) = words_of(alloc, env::args(rt)) {
-        complain(rt, &rt.stderr(), &words, &code, shelf.last_error, &out);
+        let call = EndedCall {
+            words: &words,
+            printed: out.text(),
+            reason: shelf.last_error,
+        };
+        complain(rt, &rt.stderr(), &call, &code, out.sink.last_error);
     }
     code
 }

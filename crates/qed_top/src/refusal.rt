@@ -6,11 +6,11 @@ ghost use Rattle.tests.specs.Admission.Ends.{HasEnds};
 ghost use Rattle.report.specs.Admission.{admit_line};
 ghost use Rattle.qed_top.specs.Refused.{TellsEnds, admit_status, error_status, refusal_line, refusal_status};
 
-use crate::answer::{Answer, plain};
+use crate::answer::{Answer, above_limit, plain};
 use crate::status::Status;
-use elf_types::{Bytes, ElfError};
+use elf_types::ElfError;
 use qed_model::{AdmitError, Limit};
-use report::{admit_text, error_text, limit_text};
+use report::{admit_text, error_text};
 use std::alloc::{AllocError, Global};
 use transform::TransformError;
 
@@ -31,26 +31,6 @@ pub fn unread(alloc: Global, error: ElfError) -> Result<Answer, AllocError>
 {
     let text = error_text(alloc, error)?;
     Ok(plain(status_of(error), text))
-}
-
-/// The line about a file that is not transformed.
-fn refusal_text(alloc: Global, error: &TransformError) -> Result<Bytes, AllocError>
-    requires { TellsEnds error.now }
-    ensures text { IfOk result (λ text. text ≡ refusal_line error.now) }
-    ensures memory { OnOk result (error.now ≢ TransformError.Memory) }
-{
-    match error {
-        TransformError::Elf(unread) => Ok(error_text(alloc, *unread)?),
-        TransformError::Admit(rule) => Ok(admit_text(alloc, rule)?),
-        TransformError::TooLarge(most, n) => Ok(limit_text(alloc, *most, u128::from(*n))?),
-        TransformError::TooManySegments(n) => Ok(limit_text(
-            alloc,
-            Limit::OutputSegments,
-            u128::from(*n),
-        )?),
-        TransformError::FileTooLong(n) => Ok(limit_text(alloc, Limit::OutputBytes, *n)?),
-        TransformError::Memory => Err(AllocError),
-    }
 }
 
 /// The status that goes with a test that is not admitted.
@@ -75,26 +55,22 @@ pub fn not_admitted(alloc: Global, rule: &AdmitError) -> Result<Answer, AllocErr
     Ok(plain(admit_status_of(*rule), text))
 }
 
-/// The status that goes with a file that is not transformed.
-fn refusal_status_of(error: &TransformError) -> Status
-    ensures { result ≡ refusal_status error.now }
-{
-    match error {
-        TransformError::Elf(unread) => status_of(*unread),
-        TransformError::Admit(rule) => admit_status_of(*rule),
-        TransformError::TooLarge(..) => Status::Limit,
-        TransformError::TooManySegments(_) => Status::Limit,
-        TransformError::FileTooLong(_) => Status::Limit,
-        TransformError::Memory => Status::Refused,
-    }
-}
-
 /// The answer for a file that is not transformed. Want of memory is answered as such.
 pub fn refused(alloc: Global, error: &TransformError) -> Result<Answer, AllocError>
     requires { TellsEnds error.now }
     ensures answer { IfOk result (PrintsOnly (refusal_status error.now) (refusal_line error.now)) }
     ensures memory { OnOk result (error.now ≢ TransformError.Memory) }
 {
-    let text = refusal_text(alloc, error)?;
-    Ok(plain(refusal_status_of(error), text))
+    match error {
+        TransformError::Elf(error) => Ok(unread(alloc, *error)?),
+        TransformError::Admit(rule) => Ok(not_admitted(alloc, rule)?),
+        TransformError::TooLarge(most, n) => Ok(above_limit(alloc, *most, u128::from(*n))?),
+        TransformError::TooManySegments(n) => Ok(above_limit(
+            alloc,
+            Limit::OutputSegments,
+            u128::from(*n),
+        )?),
+        TransformError::FileTooLong(n) => Ok(above_limit(alloc, Limit::OutputBytes, *n)?),
+        TransformError::Memory => Err(AllocError),
+    }
 }

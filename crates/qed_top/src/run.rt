@@ -3,10 +3,8 @@ ghost use Rattle.std.specs.Option.{option_copied};
 ghost use Rattle.std.specs.Prelude.{◌≡◌, ◌*◌, ◌^◌, ◌≤◌, ℕ, ◌==◌, ◌&&◌, IfOk, OnOk, MatchOption, string_bytes};
 ghost use Rattle.machine.specs.Sets.{has_address};
 ghost use Rattle.flow_recovery.specs.Sets.{lists, Adds};
-ghost use Rattle.machine.specs.Loading.{load_segments, loaded_file};
+ghost use Rattle.machine.specs.Loading.{load_segments};
 ghost use Rattle.machine.specs.Apart.{AllFitMemory, AreApart};
-ghost use Rattle.machine.specs.Program.{start, zeros};
-ghost use Rattle.machine.specs.Progress.{begun};
 ghost use Rattle.qed_model.specs.Promise.Changed.{Ordered};
 ghost use Rattle.qed_top.specs.Run.{FileRuns, IsAboveMemory, RunsAs, is_reached_word, jumps_of, memory_bytes, memory_limit, outcome_status, run_of};
 ghost use Rattle.qed_words.specs.Sound.{IsSoundRun};
@@ -19,12 +17,21 @@ use elf_types::{ElfFile, Segment, Shared};
 use fault_inject::{Progress, run_changed, run_watched};
 use flow_recovery::reached;
 use qed_model::limits::MAX_MEMORY_BYTES;
-use qed_model::{Change, CodeWord, Limit, Options, Outcome, Test};
+use qed_model::{Changes, CodeWord, Limit, Options, Outcome, Test};
 use report::{jumps_text, run_text};
 use rv_step::Machine;
 use std::alloc::{AllocError, Global};
 use std::collections::BTreeSet;
 use test_admission::admit;
+
+/// How a file is run: the greatest number of steps, the changes in the order of their steps, and the address and the length of
+/// the dump in bytes.
+#[derive(Debug, Drop)]
+pub struct Way {
+    pub steps: u64,
+    pub changes: Changes,
+    pub dump: Option<(u64, u64)>,
+}
 
 /// The memory sizes of the PT_LOAD segments together, in bytes.
 pub fn memory_size(segments: &[Segment]) -> u128
@@ -96,30 +103,32 @@ fn reached_words(alloc: Global, test: &Test, file: &ElfFile) -> Result<BTreeSet<
     Ok(set)
 }
 
-/// Runs a machine from the start of a file, and gives the text about its jumps by register where the test is given.
+/// A machine that was run from the start of a file, and the text about its jumps by register where the test is given.
 fn run_machine(
     alloc: Global,
-    machine: &mut Machine,
     file: &ElfFile,
     test: Option<&Test>,
-    steps: u64,
-    changes: &[Change],
+    way: &Way,
     progress: &mut dyn Progress,
-) -> Result<String, AllocError>
-    requires begun { machine.now ≡ begun (start (loaded_file file.now) zeros) }
-    requires sound { Ordered changes.now }
-    ensures run { IfOk result (λ _. machine.new ≡ run_of file.now steps changes.now) }
-    ensures jumps { IfOk result (λ text. string_bytes text ≡ jumps_of file.now (option_copied test.entry) steps changes.now) }
+) -> Result<(Machine, String), AllocError>
+    requires fit { AllFitMemory (load_segments file.now.segments) }
+    requires apart { AreApart (load_segments file.now.segments) }
+    requires sound { Ordered way.now.changes }
+    ensures run { IfOk result (λ ran. ran.0 ≡ run_of file.now way.now.steps way.now.changes) }
+    ensures jumps { IfOk result (λ ran. string_bytes ran.1 ≡ jumps_of file.now (option_copied test.entry) way.now.steps way.now.changes) }
 {
+    let mut machine = Machine::start(alloc, file, &[0; 32])?;
+    let changes = way.changes.as_slice();
     match test {
         Some(test) => {
             let reached = reached_words(alloc, test, file)?;
-            let astray = run_watched(machine, changes, steps, &reached, progress)?;
-            Ok(jumps_text(alloc, astray)?)
+            let astray = run_watched(&mut machine, changes, way.steps, &reached, progress)?;
+            let jumps = jumps_text(alloc, astray)?;
+            Ok((machine, jumps))
         }
         None => {
-            run_changed(machine, changes, steps, progress)?;
-            Ok(String::new(alloc))
+            run_changed(&mut machine, changes, way.steps, progress)?;
+            Ok((machine, String::new(alloc)))
         }
     }
 }
@@ -129,47 +138,42 @@ fn answer_file(
     alloc: Global,
     file: &ElfFile,
     test: Option<&Test>,
-    steps: u64,
-    changes: &[Change],
-    dump: Option<(u64, u64)>,
+    way: &Way,
     progress: &mut dyn Progress,
 ) -> Result<Answer, AllocError>
     requires fit { AllFitMemory (load_segments file.now.segments) }
     requires apart { AreApart (load_segments file.now.segments) }
-    requires sound { IsSoundRun steps changes.now dump }
-    ensures { IfOk result (FileRuns file.now steps changes.now (jumps_of file.now (option_copied test.entry) steps changes.now) dump) }
+    requires sound { IsSoundRun way.now.steps way.now.changes way.now.dump }
+    ensures { IfOk result (FileRuns file.now way.now.steps way.now.changes (jumps_of file.now (option_copied test.entry) way.now.steps way.now.changes) way.now.dump) }
 {
     if let Some(answer) = above_memory(alloc, file)? {
         return Ok(answer);
     }
-    let mut machine = Machine::start(alloc, file, &[0; 32])?;
-    let jumps = run_machine(alloc, &mut machine, file, test, steps, changes, progress)?;
-    let text = run_text(alloc, &machine, jumps.as_bytes(), dump)?;
-    Ok(plain(status_of(machine.outcome()), text))
+    let ran = run_machine(alloc, file, test, way, progress)?;
+    let text = run_text(alloc, &ran.0, ran.1.as_bytes(), way.dump)?;
+    Ok(plain(status_of(ran.0.outcome()), text))
 }
 
 /// What `run` answers over the bytes of its file, where asked with a line about its jumps by register.
 pub fn answer_run(
     alloc: Global,
     bytes: &Shared,
-    steps: u64,
-    changes: &[Change],
-    dump: Option<(u64, u64)>,
+    way: &Way,
     reached: bool,
     progress: &mut dyn Progress,
 ) -> Result<Answer, AllocError>
-    requires { IsSoundRun steps changes.now dump }
-    ensures { IfOk result (RunsAs reached bytes.now steps changes.now dump) }
+    requires { IsSoundRun way.now.steps way.now.changes way.now.dump }
+    ensures { IfOk result (RunsAs reached bytes.now way.now.steps way.now.changes way.now.dump) }
 {
     let file = match read_shared(alloc, bytes) {
         Ok(file) => file,
         Err(error) => return Ok(unread(alloc, error)?),
     };
     if !reached {
-        return Ok(answer_file(alloc, &file, None, steps, changes, dump, progress)?);
+        return Ok(answer_file(alloc, &file, None, way, progress)?);
     }
     match admit(alloc, &file, &Options::default()) {
-        Ok(test) => Ok(answer_file(alloc, &file, Some(&test), steps, changes, dump, progress)?),
+        Ok(test) => Ok(answer_file(alloc, &file, Some(&test), way, progress)?),
         Err(rule) => Ok(not_admitted(alloc, &rule)?),
     }
 }

@@ -1,5 +1,6 @@
 //! The top call.
 ghost use Rattle.qed_words.specs.Words.{texts};
+ghost use Rattle.qed_top.specs.Ends.{call_on};
 ghost use Rattle.qed_top.specs.Headline.{Answers};
 
 use crate::answer::carry_out;
@@ -21,15 +22,7 @@ pub fn qed<S: Shelf, K: Sink>(
 ) -> Status
     // The headline: after `transform IN OUT` with Done, IN is a test and OUT a program whose runs keep its values and in which
     // changes are caught. Then why each status comes, with what was stored and printed; and which one comes with no fault.
-    ensures { Answers (record {
-      words = texts words.now;
-      old = S.files shelf.old;
-      new = S.files shelf.new;
-      was = K.written out.old;
-      now = K.written out.new;
-      before = record { load = S.load_faults shelf.old; store = S.store_faults shelf.old; sink = K.faults out.old };
-      after = record { load = S.load_faults shelf.new; store = S.store_faults shelf.new; sink = K.faults out.new };
-    }) result }
+    ensures { Answers (call_on S.Shelf K.Sink (texts words.now) shelf.old shelf.new out.old out.new) result }
 {
     match decide(alloc, words, shelf, progress) {
         Ok(answer) => match carry_out(&answer, shelf, out) {

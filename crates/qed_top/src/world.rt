@@ -4,7 +4,7 @@ ghost use Rattle.elf_types.specs.declared.file.ElfFile.{ElfFile as File};
 ghost use Rattle.harts.specs.HartSteps.{Counted};
 ghost use Rattle.harts.specs.Played.{programs};
 ghost use Rattle.harts.specs.Shared.{AreSound};
-ghost use Rattle.qed_io.specs.Counts.{RoseAt, NoneFell};
+ghost use Rattle.qed_io.specs.Counts.{NoneFell};
 ghost use Rattle.qed_io.specs.Files.{file_bytes};
 ghost use Rattle.machine.specs.Below.{each};
 ghost use Rattle.tests.specs.Files.File.{IsReadAs};
@@ -13,7 +13,7 @@ ghost use Rattle.machine.specs.declared.limits.Limit.TheVariants.{RunFileBytes};
 ghost use Rattle.machine.specs.Apart.{AllFitMemory, AreApart};
 ghost use Rattle.machine.specs.Loading.{load_segments};
 ghost use Rattle.qed_words.specs.Sound.{IsSoundSchedule};
-ghost use Rattle.qed_top.specs.Answer.{CallsFor, ShelfSteady, SteadyOrReadFault};
+ghost use Rattle.qed_top.specs.Answer.{CallsFor, IsSteady, LoadRose, SteadyOrReadFault};
 ghost use Rattle.qed_top.specs.Loads.{OverFiles, OverLoads};
 ghost use Rattle.qed_top.specs.Refused.{IsUnread};
 ghost use Rattle.qed_top.specs.Turns.{AreTurns, IsTaken, LeadsFrom, TellsTurns};
@@ -90,14 +90,8 @@ fn takers(alloc: Global, count: usize, turns: Option<Bytes>) -> Result<Vec<u64>,
     ensures { IfOk result (λ harts. harts.items ≡ takers_of count turns) }
 {
     match turns {
-        Some(harts) => {
-            let numbers = listed(alloc, harts.as_slice())?;
-            Ok(numbers)
-        }
-        None => {
-            let numbers = numbers(alloc, count)?;
-            Ok(numbers)
-        }
+        Some(harts) => Ok(listed(alloc, harts.as_slice())?),
+        None => Ok(numbers(alloc, count)?),
     }
 }
 
@@ -127,14 +121,12 @@ fn play(
 {
     let size = memory_sizes(files);
     if size > u128::from(MAX_MEMORY_BYTES) {
-        let answer = above_limit(alloc, Limit::MemoryBytes, size)?;
-        return Ok(answer);
+        return Ok(above_limit(alloc, Limit::MemoryBytes, size)?);
     }
     match World::start(alloc, files) {
         Ok(world) => {
             let harts = takers(alloc, files.len(), turns)?;
-            let answer = tell(alloc, world, &harts, steps)?;
-            Ok(answer)
+            Ok(tell(alloc, world, &harts, steps)?)
         }
         Err(HartsError::Shared(first, second)) => {
             let text = shared_text(alloc, first, second)?;
@@ -153,22 +145,19 @@ fn read_one<S: Shelf>(
     ensures read { IfOk result (λ read. IfOk read (λ file. OverFiles (S.files shelf.old) (λ files. IsTaken (file_bytes files name.now) file))) }
     ensures fit { IfOk result (λ read. IfOk read (λ file. AllFitMemory (load_segments file.segments))) }
     ensures apart { IfOk result (λ read. IfOk read (λ file. AreApart (load_segments file.segments))) }
-    ensures loaded { IfOk result (λ read. OnOk read (ShelfSteady (S.load_faults shelf.old) (S.load_faults shelf.new) (S.store_faults shelf.old) (S.store_faults shelf.new))) }
+    ensures loaded { IfOk result (λ read. OnOk read (IsSteady S.Shelf shelf.old shelf.new)) }
     ensures other { IfOk result (λ read. IfErr read (λ answer. OverFiles (S.files shelf.old) (λ files.
-        CallsFor RunFileBytes (file_bytes files name.now) (RoseAt (S.load_faults shelf.old) (S.load_faults shelf.new) name.now) (IsUnread (file_bytes files name.now) answer) answer))) }
+        CallsFor RunFileBytes (file_bytes files name.now) (LoadRose S.Shelf shelf.old shelf.new name.now) (IsUnread (file_bytes files name.now) answer) answer))) }
     ensures files { S.files shelf.new ≡ S.files shelf.old }
     ensures stores { NoneFell (S.store_faults shelf.old) (S.store_faults shelf.new) }
-    ensures steady { IfOk result (λ read. IfErr read (SteadyOrReadFault (ShelfSteady (S.load_faults shelf.old) (S.load_faults shelf.new) (S.store_faults shelf.old) (S.store_faults shelf.new)))) }
-    ensures memory { OnErr result (ShelfSteady (S.load_faults shelf.old) (S.load_faults shelf.new) (S.store_faults shelf.old) (S.store_faults shelf.new)) }
+    ensures steady { IfOk result (λ read. IfErr read (SteadyOrReadFault (IsSteady S.Shelf shelf.old shelf.new))) }
+    ensures memory { OnErr result (IsSteady S.Shelf shelf.old shelf.new) }
 {
     let loaded = read_file(alloc, name, Limit::RunFileBytes, shelf)?;
     match loaded {
         Ok(bytes) => match read_elf(alloc, bytes.as_slice()) {
             Ok(file) => Ok(Ok(file)),
-            Err(error) => {
-                let answer = unread(alloc, error)?;
-                Ok(Err(answer))
-            }
+            Err(error) => Ok(Err(unread(alloc, error)?)),
         },
         Err(answer) => Ok(Err(answer)),
     }
@@ -183,13 +172,13 @@ fn read_files<S: Shelf>(
     ensures read { IfOk result (λ read. IfOk read (λ files. LeadsFrom (S.files shelf.old) (S.load_faults shelf.old) names.now files.items)) }
     ensures count { IfOk result (λ read. IfOk read (λ files. length files.items ≡ length names.now)) }
     ensures sound { IfOk result (λ read. IfOk read (λ files. AreSound (programs files.items))) }
-    ensures loaded { IfOk result (λ read. OnOk read (ShelfSteady (S.load_faults shelf.old) (S.load_faults shelf.new) (S.store_faults shelf.old) (S.store_faults shelf.new))) }
+    ensures loaded { IfOk result (λ read. OnOk read (IsSteady S.Shelf shelf.old shelf.new)) }
     ensures other { IfOk result (λ read. IfErr read (λ answer. (turns : Option (List ℕ)) (steps : ℕ) → OverLoads (S.files shelf.old) (λ loads.
-        FilesCallFor names.now [] turns steps loads (RoseAt (S.load_faults shelf.old) (S.load_faults shelf.new)) answer))) }
+        FilesCallFor names.now [] turns steps loads (LoadRose S.Shelf shelf.old shelf.new) answer))) }
     ensures files { S.files shelf.new ≡ S.files shelf.old }
     ensures stores { NoneFell (S.store_faults shelf.old) (S.store_faults shelf.new) }
-    ensures steady { IfOk result (λ read. IfErr read (SteadyOrReadFault (ShelfSteady (S.load_faults shelf.old) (S.load_faults shelf.new) (S.store_faults shelf.old) (S.store_faults shelf.new)))) }
-    ensures memory { OnErr result (ShelfSteady (S.load_faults shelf.old) (S.load_faults shelf.new) (S.store_faults shelf.old) (S.store_faults shelf.new)) }
+    ensures steady { IfOk result (λ read. IfErr read (SteadyOrReadFault (IsSteady S.Shelf shelf.old shelf.new))) }
+    ensures memory { OnErr result (IsSteady S.Shelf shelf.old shelf.new) }
 {
     let mut files = Vec::new(alloc);
     for name in names {
@@ -212,18 +201,15 @@ pub fn answer_harts<S: Shelf>(
     shelf: &mut S,
 ) -> Result<Answer, AllocError>
     requires { IsSoundSchedule names.now turns steps }
-    ensures meant { IfOk result (λ answer. OverLoads (S.files shelf.old) (λ loads. FilesCallFor names.now [] turns steps loads (RoseAt (S.load_faults shelf.old) (S.load_faults shelf.new)) answer)) }
+    ensures meant { IfOk result (λ answer. OverLoads (S.files shelf.old) (λ loads. FilesCallFor names.now [] turns steps loads (LoadRose S.Shelf shelf.old shelf.new) answer)) }
     ensures files { S.files shelf.new ≡ S.files shelf.old }
     ensures stores { NoneFell (S.store_faults shelf.old) (S.store_faults shelf.new) }
-    ensures steady { IfOk result (SteadyOrReadFault (ShelfSteady (S.load_faults shelf.old) (S.load_faults shelf.new) (S.store_faults shelf.old) (S.store_faults shelf.new))) }
-    ensures memory { OnErr result (ShelfSteady (S.load_faults shelf.old) (S.load_faults shelf.new) (S.store_faults shelf.old) (S.store_faults shelf.new)) }
+    ensures steady { IfOk result (SteadyOrReadFault (IsSteady S.Shelf shelf.old shelf.new)) }
+    ensures memory { OnErr result (IsSteady S.Shelf shelf.old shelf.new) }
 {
     let read = read_files(alloc, names, shelf)?;
     match read {
-        Ok(files) => {
-            let answer = play(alloc, &files, turns, steps)?;
-            Ok(answer)
-        }
+        Ok(files) => Ok(play(alloc, &files, turns, steps)?),
         Err(answer) => Ok(answer),
     }
 }

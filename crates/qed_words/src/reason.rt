@@ -1,6 +1,6 @@
 //! The first reason why arguments are no order.
 ghost use Rattle.std.specs.Prelude.{◌≡◌, map};
-ghost use Rattle.qed_words.specs.Words.{split_reason as split_reason_of, is_empty as is_empty_of, window_reason as window_reason_of, topic_reason as topic_reason_of, reason_of};
+ghost use Rattle.qed_words.specs.Words.{window_reason as window_reason_of, topic_reason as topic_reason_of, reason_of};
 ghost use Rattle.qed_words.specs.Seen.{seen};
 
 use crate::argument::Argument;
@@ -11,33 +11,14 @@ use crate::value::first_wrong_value;
 use crate::wrong::{first_wrong, missing};
 use crate::{Command, Key, Reason};
 
-#[tactic(auto, unfolding(crate::specs::Words::split_reason))]
-fn split_reason(arguments: &[Argument<'_>]) -> Option<Reason>
-    ensures { result ≡ split_reason_of (map seen arguments.now) }
-{
-    is_split(&options(arguments)).then_some(Reason::Split)
-}
-
-/// Whether the least step is not below the end of the steps, where both are given.
-fn is_empty(from: Option<u64>, to: Option<u64>) -> bool
-    ensures { result ≡ is_empty_of from to }
-{
-    match (from, to) {
-        (Some(from), Some(to)) => to <= from,
-        _ => false,
-    }
-}
-
 /// That there is no step to strike in.
 #[tactic(auto, unfolding(crate::specs::Words::window_reason))]
 fn window_reason(arguments: &[Argument<'_>]) -> Option<Reason>
     ensures { result ≡ window_reason_of (map seen arguments.now) }
 {
-    let (from, to) = (
-        number_given(Key::From, arguments),
-        number_given(Key::To, arguments),
-    );
-    is_empty(from, to).then_some(Reason::OutOfRange(Key::To))
+    let from = number_given(Key::From, arguments)?;
+    let to = number_given(Key::To, arguments)?;
+    (to <= from).then_some(Reason::OutOfRange(Key::To))
 }
 
 /// That the word behind `help` names no command.
@@ -55,7 +36,7 @@ fn topic_reason(command: Command, arguments: &[Argument<'_>]) -> Option<Reason>
 }
 
 /// The first reason why arguments are no order.
-#[tactic(auto, unfolding(crate::specs::Words::reason_of))]
+#[tactic(auto, unfolding(crate::specs::Words::reason_of, crate::specs::Words::split_reason))]
 pub fn first_reason(command: Command, arguments: &[Argument<'_>]) -> Option<Reason>
     ensures { result ≡ reason_of command (map seen arguments.now) }
 {
@@ -68,8 +49,8 @@ pub fn first_reason(command: Command, arguments: &[Argument<'_>]) -> Option<Reas
     if let Some(reason) = first_wrong_value(command, arguments) {
         return Some(reason);
     }
-    if let Some(reason) = split_reason(arguments) {
-        return Some(reason);
+    if is_split(&options(arguments)) {
+        return Some(Reason::Split);
     }
     if let Some(reason) = missing_lean(arguments) {
         return Some(reason);

@@ -55,30 +55,17 @@ pub fn wrong_turns(count: usize, text: &[u8]) -> Option<Reason>
     (!are_below(text, count)).then_some(Reason::OutOfRange(Key::Turns))
 }
 
-/// The values of digits.
-fn digits(alloc: Global, text: &[u8]) -> Result<Vec<u8>, AllocError>
-    ensures { IfOk result (λ values. values.items ≡ map digit_value text.now) }
-{
-    text.iter().map(|&byte| digit(byte)).collect(alloc)
-}
-
-/// The harts that make the turns, by their numbers.
+/// The harts that arguments ask for, by their numbers.
 #[tactic(auto, unfolding(crate::specs::Words::turns))]
-fn turns(alloc: Global, text: &[u8]) -> Result<Option<Bytes>, AllocError>
-    ensures { IfOk result (λ harts. harts ≡ turns_of text.now) }
-{
-    if !are_turns(text) {
-        return Ok(None);
-    }
-    Ok(Some(Bytes::of(digits(alloc, text)?)))
-}
-
-/// The harts that arguments ask for.
 pub fn turns_given(alloc: Global, arguments: &[Argument<'_>]) -> Result<Option<Bytes>, AllocError>
     ensures { IfOk result (λ harts. harts ≡ option_and_then turns_of (value_of key.Turns (map seen arguments.now))) }
 {
-    match first_value(Key::Turns, arguments) {
-        Some(text) => turns(alloc, text),
-        None => Ok(None),
+    let Some(text) = first_value(Key::Turns, arguments) else {
+        return Ok(None);
+    };
+    if !are_turns(text) {
+        return Ok(None);
     }
+    let harts: Vec<u8> = text.iter().map(|&byte| digit(byte)).collect(alloc)?;
+    Ok(Some(Bytes::of(harts)))
 }

@@ -1,8 +1,7 @@
 //! The order that words ask for.
 ghost use Rattle.std.specs.Prelude.{◌≡◌, Ok, IfOk, IfErr, map, option_and_then};
 ghost use Rattle.qed_words.specs.declared.orders.Key.TheVariants as key;
-ghost use Rattle.qed_words.specs.Tables.{command_of};
-ghost use Rattle.qed_words.specs.Words.{texts, dump as dump_of, places as places_of, draws as draws_of, value_of, file as file_of, files, steps_given as steps_given_of, topic_of, order_of, asked};
+ghost use Rattle.qed_words.specs.Words.{texts, dump as dump_of, places as places_of, draws as draws_of, value_of, file as file_of, files, steps_given as steps_given_of, order_of, asked};
 ghost use Rattle.qed_words.specs.Seen.{seen};
 ghost use Rattle.qed_words.specs.Sound.{IsSoundOrder};
 ghost use Rattle.qed_words.specs.WordsError.{Explains};
@@ -87,16 +86,6 @@ fn draws(arguments: &[Argument<'_>]) -> Draws
     }
 }
 
-/// What `help` is to tell of.
-fn topic_given(arguments: &[Argument<'_>]) -> Topic
-    ensures { result ≡ topic_of (command_of (file_of (map seen arguments.now) 0)) }
-{
-    match Command::named(file(arguments, 0)) {
-        None => Topic::All,
-        Some(command) => Topic::One(command),
-    }
-}
-
 /// The order that arguments ask for, where nothing is wrong with them.
 #[tactic(auto, unfolding(crate::specs::Words::order_of))]
 fn make_order(
@@ -139,7 +128,10 @@ fn make_order(
             let turns = turns_given(alloc, arguments)?;
             Ok(Order::Harts(files, turns, steps_given(arguments)))
         }
-        Command::Help => Ok(Order::Tell(topic_given(arguments))),
+        Command::Help => match Command::named(file(arguments, 0)) {
+            None => Ok(Order::Tell(Topic::All)),
+            Some(command) => Ok(Order::Tell(Topic::One(command))),
+        },
         Command::Version => Ok(Order::Tell(Topic::Version)),
     }
 }

@@ -24,37 +24,6 @@ fn outside_line(alloc: Global, high: u128, end: u64) -> Result<String, AllocErro
     }
 }
 
-/// The line about a test that is not admitted, as a text.
-fn admit_line(alloc: Global, error: &AdmitError) -> Result<String, AllocError>
-    requires { HasEnds error.now }
-    ensures text { IfOk result (λ text. string_bytes text ≡ admit_line error.now) }
-    ensures memory { OnOk result (error.now ≢ AdmitError.Memory) }
-{
-    match error {
-        AdmitError::Compressed => String::from_str(alloc, "refused A1: compressed\n"),
-        AdmitError::Dynamic => String::from_str(alloc, "refused A2: dynamic\n"),
-        AdmitError::WritableCode(i) => numbered(alloc, "refused A3: segment ", *i),
-        AdmitError::NoCode(entry) => addressed(alloc, "refused A4: entry ", *entry),
-        AdmitError::CodeShape(i) => numbered(alloc, "refused A5: part ", *i),
-        AdmitError::UnknownWord(at, word) => {
-            let (at, word) = (Address(*at), Word(*word));
-            format!(in alloc; "refused A6: address {at}, word {word}\n")
-        }
-        AdmitError::RegisterHalf(at, register) => {
-            let (at, register) = (Address(*at), register.number());
-            format!(in alloc; "refused A7: address {at}, register {register}\n")
-        }
-        AdmitError::Breakpoint(at) => addressed(alloc, "refused A8: address ", *at),
-        AdmitError::FarConstant(at) => addressed(alloc, "refused A9: address ", *at),
-        AdmitError::DataMixed(i) => numbered(alloc, "refused A10: segment ", *i),
-        AdmitError::OutsideHalf(high, end) => outside_line(alloc, *high, *end as u64),
-        AdmitError::ImageSpan(n) => limit_line(alloc, Limit::ImageSpan, *n),
-        AdmitError::CodeWords(n) => limit_line(alloc, Limit::CodeWords, u128::from(*n)),
-        AdmitError::TopAddress(n) => limit_line(alloc, Limit::TopAddress, *n),
-        AdmitError::Memory => Err(AllocError),
-    }
-}
-
 /// The line about an address where no word of new code stands: N1.
 pub fn no_word_text(alloc: Global, address: u64) -> Result<Bytes, AllocError>
     ensures { IfOk result (λ text. text ≡ no_word_line address) }
@@ -69,5 +38,28 @@ pub fn admit_text(alloc: Global, error: &AdmitError) -> Result<Bytes, AllocError
     ensures text { IfOk result (λ text. text ≡ admit_line error.now) }
     ensures memory { OnOk result (error.now ≢ AdmitError.Memory) }
 {
-    Ok(Bytes::of(admit_line(alloc, error)?.into_bytes()))
+    let line = match error {
+        AdmitError::Compressed => String::from_str(alloc, "refused A1: compressed\n")?,
+        AdmitError::Dynamic => String::from_str(alloc, "refused A2: dynamic\n")?,
+        AdmitError::WritableCode(i) => numbered(alloc, "refused A3: segment ", *i)?,
+        AdmitError::NoCode(entry) => addressed(alloc, "refused A4: entry ", *entry)?,
+        AdmitError::CodeShape(i) => numbered(alloc, "refused A5: part ", *i)?,
+        AdmitError::UnknownWord(at, word) => {
+            let (at, word) = (Address(*at), Word(*word));
+            format!(in alloc; "refused A6: address {at}, word {word}\n")?
+        }
+        AdmitError::RegisterHalf(at, register) => {
+            let (at, register) = (Address(*at), register.number());
+            format!(in alloc; "refused A7: address {at}, register {register}\n")?
+        }
+        AdmitError::Breakpoint(at) => addressed(alloc, "refused A8: address ", *at)?,
+        AdmitError::FarConstant(at) => addressed(alloc, "refused A9: address ", *at)?,
+        AdmitError::DataMixed(i) => numbered(alloc, "refused A10: segment ", *i)?,
+        AdmitError::OutsideHalf(high, end) => outside_line(alloc, *high, *end as u64)?,
+        AdmitError::ImageSpan(n) => limit_line(alloc, Limit::ImageSpan, *n)?,
+        AdmitError::CodeWords(n) => limit_line(alloc, Limit::CodeWords, u128::from(*n))?,
+        AdmitError::TopAddress(n) => limit_line(alloc, Limit::TopAddress, *n)?,
+        AdmitError::Memory => return Err(AllocError),
+    };
+    Ok(Bytes::of(line.into_bytes()))
 }

@@ -1,6 +1,6 @@
 //! What is printed about a text that is assembled.
-ghost use Rattle.std.specs.Prelude.{◌≡◌, ◌≢◌, IfOk, OnOk, string_bytes};
-ghost use Rattle.report.specs.Assembly.{asm_error_line, assembly_line, fault_line, fault_number};
+ghost use Rattle.std.specs.Prelude.{◌≡◌, ◌≢◌, IfOk, OnOk};
+ghost use Rattle.report.specs.Assembly.{asm_error_line, assembly_line, fault_number};
 
 use elf_types::Bytes;
 use rv_asm::{AsmError, Fault};
@@ -13,13 +13,6 @@ fn fault_number(fault: Fault) -> u64
     fault as u64 + 1
 }
 
-/// The line about a fault on a line of the text.
-fn fault_line(alloc: Global, fault: Fault, line: u64) -> Result<String, AllocError>
-    ensures { IfOk result (λ text. string_bytes text ≡ fault_line fault line) }
-{
-    format!(in alloc; "refused S{}: line {line}\n", fault_number(fault))
-}
-
 /// The line about a text that is not assembled: the rule of the first fault, and the number of its line, from 1. Want of
 /// memory has none.
 pub fn asm_error_text(alloc: Global, error: AsmError) -> Result<Bytes, AllocError>
@@ -27,7 +20,9 @@ pub fn asm_error_text(alloc: Global, error: AsmError) -> Result<Bytes, AllocErro
     ensures memory { OnOk result (error ≢ AsmError.Memory) }
 {
     let text = match error {
-        AsmError::Line(fault, line) => fault_line(alloc, fault, line)?,
+        AsmError::Line(fault, line) => {
+            format!(in alloc; "refused S{}: line {line}\n", fault_number(fault))?
+        }
         AsmError::NoCode => String::from_str(alloc, "refused S7: no instruction\n")?,
         AsmError::Memory => return Err(AllocError),
     };

@@ -1,7 +1,7 @@
 //! What is printed about strikes.
 ghost use Rattle.std.specs.Prelude.{◌≡◌, Some, IfOk, string_bytes};
 ghost use Rattle.std.specs.Option.{option_copied};
-ghost use Rattle.qed_words.specs.Text.Campaign.{place_text, change_text, changes_text, verdict_text, right_at as right_at_of, end_text, strike_line, strike_lines, trapped_line, campaign_text};
+ghost use Rattle.qed_words.specs.Text.Campaign.{place_text, change_text, changes_text, verdict_text, right_at as right_at_of, end_text, strike_line, strike_lines, campaign_text};
 
 use crate::tally::summary_line;
 use elf_types::Bytes;
@@ -121,13 +121,6 @@ fn strike_lines(
     Ok(text)
 }
 
-/// The line about an input whose own run trapped at a pc.
-fn trapped_line(alloc: Global, pc: u64) -> Result<String, AllocError>
-    ensures { IfOk result (λ text. string_bytes text ≡ trapped_line pc) }
-{
-    format!(in alloc; "input trapped at {}\n", Address(pc))
-}
-
 /// What is printed about strikes of an output: a line for each, and then their verdicts with the bounds of its plan, or
 /// the pc at which the input's own run trapped. `rights` tells of each strike, where that is told, whether the test ended right.
 pub fn campaign_text(
@@ -141,7 +134,7 @@ pub fn campaign_text(
 {
     let mut text = strike_lines(alloc, struck, rights)?;
     let last = match trapped {
-        Some(pc) => trapped_line(alloc, pc)?,
+        Some(pc) => format!(in alloc; "input trapped at {}\n", Address(pc))?,
         None => summary_line(alloc, struck, rights, plan)?,
     };
     text.extend_from_slice(last.as_bytes())?;

@@ -22,39 +22,32 @@ fn part_text(alloc: Global, part: Part) -> Result<String, AllocError>
     }
 }
 
-/// The line about a fault of the header.
-fn header_text(alloc: Global, error: ElfError) -> Result<String, AllocError>
-    ensures text { IfOk result (λ text. string_bytes text ≡ error_line error) }
-    ensures memory { OnOk result (error ≢ ElfError.Memory) }
-{
-    match error {
-        ElfError::Magic => String::from_str(alloc, "refused E1: magic\n"),
-        ElfError::Class(n) => numbered(alloc, "refused E2: class ", u64::from(n)),
-        ElfError::Encoding(n) => numbered(alloc, "refused E3: encoding ", u64::from(n)),
-        ElfError::Version(n) => numbered(alloc, "refused E4: version ", u64::from(n)),
-        ElfError::FileType(n) => numbered(alloc, "refused E5: type ", u64::from(n)),
-        ElfError::Machine(n) => numbered(alloc, "refused E6: machine ", u64::from(n)),
-        ElfError::HeaderShape => String::from_str(alloc, "refused E7: header shape\n"),
-        ElfError::OutOfFile(part) => part_text(alloc, part),
-        ElfError::SegmentShape(i) => numbered(alloc, "refused E9: segment ", i),
-        ElfError::SegmentOverlap(i, j) => {
-            format!(in alloc; "refused E10: segments {i} and {j}\n")
-        }
-        ElfError::SectionShape(i) => numbered(alloc, "refused E11: section ", i),
-        ElfError::SymbolShape(j) => numbered(alloc, "refused E12: symbol ", j),
-        ElfError::RelaShape(i, j) => format!(in alloc; "refused E13: section {i}, entry {j}\n"),
-        ElfError::TooManySections(n) => limit_line(alloc, Limit::Sections, u128::from(n)),
-        ElfError::TooManyBytes(n) => limit_line(alloc, Limit::CountedBytes, u128::from(n)),
-        ElfError::Memory => Err(AllocError),
-    }
-}
-
 /// The line about a file that is not read. Want of memory has none, and is answered as such.
 pub fn error_text(alloc: Global, error: ElfError) -> Result<Bytes, AllocError>
     ensures text { IfOk result (λ text. text ≡ error_line error) }
     ensures memory { OnOk result (error ≢ ElfError.Memory) }
 {
-    Ok(Bytes::of(header_text(alloc, error)?.into_bytes()))
+    let line = match error {
+        ElfError::Magic => String::from_str(alloc, "refused E1: magic\n")?,
+        ElfError::Class(n) => numbered(alloc, "refused E2: class ", u64::from(n))?,
+        ElfError::Encoding(n) => numbered(alloc, "refused E3: encoding ", u64::from(n))?,
+        ElfError::Version(n) => numbered(alloc, "refused E4: version ", u64::from(n))?,
+        ElfError::FileType(n) => numbered(alloc, "refused E5: type ", u64::from(n))?,
+        ElfError::Machine(n) => numbered(alloc, "refused E6: machine ", u64::from(n))?,
+        ElfError::HeaderShape => String::from_str(alloc, "refused E7: header shape\n")?,
+        ElfError::OutOfFile(part) => part_text(alloc, part)?,
+        ElfError::SegmentShape(i) => numbered(alloc, "refused E9: segment ", i)?,
+        ElfError::SegmentOverlap(i, j) => {
+            format!(in alloc; "refused E10: segments {i} and {j}\n")?
+        }
+        ElfError::SectionShape(i) => numbered(alloc, "refused E11: section ", i)?,
+        ElfError::SymbolShape(j) => numbered(alloc, "refused E12: symbol ", j)?,
+        ElfError::RelaShape(i, j) => format!(in alloc; "refused E13: section {i}, entry {j}\n")?,
+        ElfError::TooManySections(n) => limit_line(alloc, Limit::Sections, u128::from(n))?,
+        ElfError::TooManyBytes(n) => limit_line(alloc, Limit::CountedBytes, u128::from(n))?,
+        ElfError::Memory => return Err(AllocError),
+    };
+    Ok(Bytes::of(line.into_bytes()))
 }
 
 /// The line about a file that could not be read.

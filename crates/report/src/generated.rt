@@ -1,6 +1,6 @@
 //! What is printed about a generated test.
 ghost use Rattle.std.specs.Prelude.{◌≡◌, Some, IfOk};
-ghost use Rattle.report.specs.Generated.{outcome_word, ran_text, drawn_text, generated_line};
+ghost use Rattle.report.specs.Generated.{ran_text, drawn_text, generated_line};
 
 use crate::transform::BoundsText;
 use elf_types::Bytes;
@@ -8,23 +8,6 @@ use qed_model::{Outcome, Plan};
 use rv_step::Machine;
 use std::alloc::{AllocError, Global};
 use std::fmt;
-
-/// How a run stands, in one word.
-#[derive(Clone, Copy)]
-struct OutcomeWord(Outcome);
-
-impl fmt::Display for OutcomeWord {
-    ghost output = { λ o. Some (outcome_word o.0) };
-
-    fn fmt<W: fmt::Write>(&self, f: &mut fmt::Formatter<W>) -> fmt::Result {
-        match self.0 {
-            Outcome::Going => write!(f, "going"),
-            Outcome::Ended => write!(f, "ended"),
-            Outcome::Fired => write!(f, "fired"),
-            Outcome::Trapped(_, _) => write!(f, "trapped"),
-        }
-    }
-}
 
 /// A run, printed as `ended after N steps`.
 #[derive(Clone, Copy)]
@@ -34,7 +17,13 @@ impl fmt::Display for Ran {
     ghost output = { λ r. Some (ran_text r.0 r.1) };
 
     fn fmt<W: fmt::Write>(&self, f: &mut fmt::Formatter<W>) -> fmt::Result {
-        write!(f, "{} after {} steps", OutcomeWord(self.0), self.1)
+        let steps = self.1;
+        match self.0 {
+            Outcome::Going => write!(f, "going after {steps} steps"),
+            Outcome::Ended => write!(f, "ended after {steps} steps"),
+            Outcome::Fired => write!(f, "fired after {steps} steps"),
+            Outcome::Trapped(_, _) => write!(f, "trapped after {steps} steps"),
+        }
     }
 }
 

@@ -17,38 +17,24 @@ fn bounds_value(alloc: Global, bounds: &Bounds) -> Result<Value, AllocError>
     json!(in alloc; {"piece": bounds.piece, "register": bounds.register, "word": bounds.word})
 }
 
-/// An entry as a pair.
-fn entry_value(alloc: Global, row: &EntryRow) -> Result<Value, AllocError>
-    ensures { IfOk result (λ v. view v ≡ entry_data row.now) }
-{
-    json!(in alloc; [row.input, row.output])
-}
-
-/// The entries in their order.
+/// The entries in their order, each as a pair.
 fn entries_value(alloc: Global, rows: &[EntryRow]) -> Result<Value, AllocError>
     ensures { IfOk result (λ v. view v ≡ array (items_of (map entry_data rows.now))) }
 {
     let mut entries = Vec::new(alloc);
     for row in rows {
-        entries.push(entry_value(alloc, row)?)?;
+        entries.push(json!(in alloc; [row.input, row.output])?)?;
     }
     Ok(Value::Array(entries))
 }
 
-/// A piece as a triple.
-fn piece_value(alloc: Global, row: &PieceRow) -> Result<Value, AllocError>
-    ensures { IfOk result (λ v. view v ≡ piece_data row.now) }
-{
-    json!(in alloc; [row.entry, row.first, row.length])
-}
-
-/// The pieces in their order.
+/// The pieces in their order, each as a triple.
 fn pieces_value(alloc: Global, rows: &[PieceRow]) -> Result<Value, AllocError>
     ensures { IfOk result (λ v. view v ≡ array (items_of (map piece_data rows.now))) }
 {
     let mut pieces = Vec::new(alloc);
     for row in rows {
-        pieces.push(piece_value(alloc, row)?)?;
+        pieces.push(json!(in alloc; [row.entry, row.first, row.length])?)?;
     }
     Ok(Value::Array(pieces))
 }

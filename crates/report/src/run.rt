@@ -98,20 +98,15 @@ pub fn run_lines(alloc: Global, hart: &Hart) -> Result<Vec<u8>, AllocError>
     Ok(text)
 }
 
-/// The line about a jump by register, at an address, that led to one that is not reached.
-fn astray_text(alloc: Global, at: u64, to: u64) -> Result<String, AllocError>
-    ensures { IfOk result (λ text. string_bytes text ≡ jumps_line (Some (at, to))) }
-{
-    format!(in alloc; "jump at {} to {} not reached\n", Address(at), Address(to))
-}
-
 /// The line that tells of the first jump by register that led to an address that is not reached, by its own address and
 /// that one, or that there was none.
 pub fn jumps_text(alloc: Global, astray: Option<(u64, u64)>) -> Result<String, AllocError>
     ensures { IfOk result (λ text. string_bytes text ≡ jumps_line astray) }
 {
     match astray {
-        Some((at, to)) => astray_text(alloc, at, to),
+        Some((at, to)) => {
+            format!(in alloc; "jump at {} to {} not reached\n", Address(at), Address(to))
+        }
         None => String::from_str(alloc, "jumps reached\n"),
     }
 }

@@ -1,6 +1,6 @@
 //! What is printed about several harts.
-ghost use Rattle.std.specs.Prelude.{◌≡◌, ◌<◌, length, IfOk, string_bytes};
-ghost use Rattle.report.specs.World.{hart_line, hart_text, shared_line, world_text};
+ghost use Rattle.std.specs.Prelude.{◌≡◌, ◌<◌, length, IfOk};
+ghost use Rattle.report.specs.World.{hart_text, shared_line, world_text};
 
 use crate::run::run_lines;
 use elf_types::Bytes;
@@ -14,19 +14,12 @@ pub fn shared_text(alloc: Global, first: u64, second: u64) -> Result<Bytes, Allo
     Ok(Bytes::of(format!(in alloc; "refused H1: files {first} and {second}\n")?.into_bytes()))
 }
 
-/// The line before those about a hart.
-fn hart_line(alloc: Global, number: u64) -> Result<String, AllocError>
-    ensures { IfOk result (λ text. string_bytes text ≡ hart_line number) }
-{
-    format!(in alloc; "hart {number}\n")
-}
-
 /// The lines about a hart: its number, and those of a run.
 fn hart_text(alloc: Global, world: &World, number: u64) -> Result<Vec<u8>, AllocError>
     requires { number < length world.now.world.harts }
     ensures { IfOk result (λ text. text.items ≡ hart_text world.now number) }
 {
-    let mut text = hart_line(alloc, number)?.into_bytes();
+    let mut text = format!(in alloc; "hart {number}\n")?.into_bytes();
     let lines = run_lines(alloc, world.hart(number))?;
     text.extend_from_slice(&lines)?;
     Ok(text)

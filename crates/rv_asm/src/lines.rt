@@ -1,7 +1,7 @@
 //! Lines and their parts.
 ghost use Rattle.std.specs.Prelude.{◌≡◌, ◌≤◌, MatchOption, None, Some, unwrap_or, [], length};
 ghost use Rattle.std.specs.List.{list_all};
-ghost use Rattle.rv_asm.specs.Lines.{trim_start as trim_start_of, trim_end as trim_end_of, trim as trim_of, statement as statement_of, is_blank as is_blank_of, word_end as word_end_of, leading_word, rest_in, begins_name as begins_name_of, continues_name as continues_name_of, is_name as is_name_of, label_in as label_in_of, pair_in as pair_in_of, triple_in as triple_in_of, bracketed_in as bracketed_in_of};
+ghost use Rattle.rv_asm.specs.Lines.{trim_start as trim_start_of, trim_end as trim_end_of, trim as trim_of, statement as statement_of, is_blank as is_blank_of, word_end as word_end_of, leading_word, rest_in, continues_name, is_name as is_name_of, label_in as label_in_of, pair_in as pair_in_of, triple_in as triple_in_of, bracketed_in as bracketed_in_of};
 ghost use Rattle.rv_asm.specs.Heads.{head_of};
 
 use crate::heads::{Head, recognize};
@@ -97,25 +97,12 @@ pub fn parts(line: &[u8]) -> Line<'_>
     }
 }
 
-/// Whether a byte is a letter or `_`.
-fn begins_name(byte: u8) -> bool
-    ensures { result ≡ begins_name_of byte }
-{
-    byte.is_ascii_alphabetic() || byte == b'_'
-}
-
-/// Whether a byte is a letter, a digit or `_`.
-fn continues_name(byte: u8) -> bool
-    ensures { result ≡ continues_name_of byte }
-{
-    byte.is_ascii_alphanumeric() || byte == b'_'
-}
-
 /// Whether all bytes are letters, digits or `_`.
 fn are_name_bytes(text: &[u8]) -> bool
-    ensures { result ≡ list_all continues_name_of text.now }
+    ensures { result ≡ list_all continues_name text.now }
 {
-    text.iter().all(|&byte| continues_name(byte))
+    text.iter()
+        .all(|&byte| byte.is_ascii_alphanumeric() || byte == b'_')
 }
 
 /// Whether a text is the name of a label: a letter or `_`, then letters, digits or `_`.
@@ -125,7 +112,9 @@ pub fn is_name(text: &[u8]) -> bool
 {
     match text {
         [] => false,
-        [first, rest @ ..] => begins_name(*first) && are_name_bytes(rest),
+        [first, rest @ ..] => {
+            (first.is_ascii_alphabetic() || *first == b'_') && are_name_bytes(rest)
+        }
     }
 }
 

@@ -28,10 +28,7 @@ pub struct Operands {
 fn zero() -> Reg
     ensures { result ≡ 0 }
 {
-    match Reg::new(0) {
-        Some(register) => register,
-        None => unreachable!(),
-    }
+    Reg::new(0).unwrap()
 }
 
 /// A register: `x` and a number from 0 to 31, in decimal without leading zeros.

@@ -15,5 +15,5 @@ tell-requires-clause-whole c =
     let is = c.in-Ok.ensures.done in
     ap rows_bytes is.roles ∙ roles_size c.in-Ok.code.file c.args.options.now is.blocks ∙ sym is.size
 
-pub returns-in_ok-answer-in-Ok : goal.returns-in_ok-answer-in-Ok
-returns-in_ok-answer-in-Ok c = made (record { code = c.in-Ok.code; is = c.in-Ok.ensures.done; tells = c.in_ok-answer-in-Ok.ensures })
+pub returns-in_ok-tell-in-Ok : goal.returns-in_ok-tell-in-Ok
+returns-in_ok-tell-in-Ok c = made (record { code = c.in-Ok.code; is = c.in-Ok.ensures.done; tells = c.in_ok-tell-in-Ok.ensures })

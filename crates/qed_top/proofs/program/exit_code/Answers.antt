@@ -6,21 +6,9 @@ use Rattle.qed_top.proofs.program.exit_code.Goals as goal
 
 pub returns-in-Ok-clause-exits : goal.returns-in-Ok-clause-exits
 returns-in-Ok-clause-exits g c =
-    let shelf = g.S.Shelf in
-    let sink = g.K.Sink in
-    let start = c.args.shelf.now in
-    let end = c.qed-status.new.shelf in
-    let out = c.args.out.now in
-    let last = c.qed-status.new.out in
-    ended_exits (words_after c.args.arguments) (shelf.files start) (shelf.files end) (shelf.load_faults start) (shelf.load_faults end) (shelf.store_faults start) (shelf.store_faults end)
-    (sink.written out) (sink.written last) (sink.faults out) (sink.faults last) c.from.result (texts c.deref.result.now) c.qed-status.result
-    (ap texts c.deref.ensures.value ∙ c.in-Ok.ensures.words) (c.from.ensures ∙ c.code.ensures) c.qed-status.ensures
+    ended_exits g.S.Shelf g.K.Sink (words_after c.args.arguments) c.from.result c.args.shelf.now c.args.out.now c.qed-status.new.shelf c.qed-status.new.out (texts c.deref.result.now)
+    c.qed-status.result (ap texts c.deref.ensures.value ∙ c.in-Ok.ensures.words) (c.from.ensures ∙ c.code.ensures) c.qed-status.ensures
 
 pub returns-in-Err-clause-exits : goal.returns-in-Err-clause-exits
 returns-in-Err-clause-exits g c =
-    let shelf = g.S.Shelf in
-    let sink = g.K.Sink in
-    let start = c.args.shelf.now in
-    let out = c.args.out.now in
-    soon_exits (words_after c.args.arguments) (shelf.files start) (shelf.load_faults start) (shelf.store_faults start)
-    (sink.written out) (sink.faults out) c.from-in-Err.result (c.from-in-Err.ensures ∙ c.code-in-Err.ensures)
+    soon_exits g.S.Shelf g.K.Sink (words_after c.args.arguments) c.from-in-Err.result c.args.shelf.now c.args.out.now (c.from-in-Err.ensures ∙ c.code-in-Err.ensures)

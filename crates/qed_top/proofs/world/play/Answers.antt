@@ -32,6 +32,6 @@ returns-in-Ok c =
     let small : all_bytes c.args.files.now ≤ memory_limit = omega (arith, c.if-size-from.false, c.from.ensures, same) in
     let keeps = turns_keep (programs c.args.files.now) (turns_of c.args.files.now c.args.turns c.args.steps) c.requires.sound c.in-Ok.ensures.apart in
     let harts : c.deref.result.now ≡ takers (length c.args.files.now) c.args.turns = c.deref.ensures.value ∙ c.in_ok-harts-in-Ok.ensures in
-    let first : TellsTurns (counted_start (programs c.args.files.now)) c.deref.result.now c.args.steps c.in_ok-answer-in-Ok.answer = subst (λ w. TellsTurns w c.deref.result.now c.args.steps c.in_ok-answer-in-Ok.answer) c.in-Ok.ensures.started c.in_ok-answer-in-Ok.ensures in
-    let told : TellsTurns (counted_start (programs c.args.files.now)) (takers (length c.args.files.now) c.args.turns) c.args.steps c.in_ok-answer-in-Ok.answer = subst (λ hs. TellsTurns (counted_start (programs c.args.files.now)) hs c.args.steps c.in_ok-answer-in-Ok.answer) harts first in
+    let first : TellsTurns (counted_start (programs c.args.files.now)) c.deref.result.now c.args.steps c.in_ok-tell-in-Ok.field-0 = subst (λ w. TellsTurns w c.deref.result.now c.args.steps c.in_ok-tell-in-Ok.field-0) c.in-Ok.ensures.started c.in_ok-tell-in-Ok.ensures in
+    let told : TellsTurns (counted_start (programs c.args.files.now)) (takers (length c.args.files.now) c.args.turns) c.args.steps c.in_ok-tell-in-Ok.field-0 = subst (λ hs. TellsTurns (counted_start (programs c.args.files.now)) hs c.args.steps c.in_ok-tell-in-Ok.field-0) harts first in
     world.told small c.in-Ok.ensures.apart told keeps

@@ -17,13 +17,13 @@ pub returns-in-Ok-clause-other : goal.returns-in-Ok-clause-other
 returns-in-Ok-clause-other g c =
     let shelf = g.S.Shelf in
     let name = c.args.name.now in
-    let answer = c.in_ok-answer-in-Err-read_elf.answer in
+    let answer = c.in_ok-unread-in-Err-read_elf.field-0 in
     let rose = RoseAt (shelf.load_faults c.args.shelf.now) (shelf.load_faults c.read_file.new.shelf) name in
     over_have (shelf.files c.args.shelf.now) name c.in-Ok.bytes (λ (bytes : List ℕ). CallsFor RunFileBytes bytes rose (IsUnread bytes answer) answer) (rw c.in-Ok.is at c.in_ok-loaded.ensures.bytes)
     (within (rw c.in-Ok.is at c.in_ok-loaded.ensures.within) (record {
       error = c.in-Err-read_elf.error;
-      cause = known_cause c.in-Err-read_elf.error Memory (rw c.as_slice.ensures at c.in-Err-read_elf.ensures.refused) c.in_ok-answer-in-Err-read_elf.ensures.memory;
-      plain = c.in_ok-answer-in-Err-read_elf.ensures.answer;
+      cause = known_cause c.in-Err-read_elf.error Memory (rw c.as_slice.ensures at c.in-Err-read_elf.ensures.refused) c.in_ok-unread-in-Err-read_elf.ensures.memory;
+      plain = c.in_ok-unread-in-Err-read_elf.ensures.answer;
     }))
 
 pub returns-clause-other : goal.returns-clause-other
