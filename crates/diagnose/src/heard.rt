@@ -1,5 +1,5 @@
 //! A sink that keeps the first bytes that it hands on.
-ghost use Rattle.std.specs.Prelude.{◌≡◌};
+ghost use Rattle.std.specs.Prelude.{◌≡◌, ◌≤◌, length};
 
 use qed_io::{Sink, WriteError};
 use std::alloc::Global;
@@ -35,8 +35,11 @@ impl<K: Sink + Drop> Heard<K> {
     }
 
     /// The first bytes as a text, empty where they are none, or where there was no memory.
-    pub fn text(&self) -> &str {
-        str::from_utf8(&self.kept).unwrap_or("")
+    pub fn text(&self) -> &str
+        ensures { length result.now ≤ MOST_KEPT }
+    {
+        let front = self.kept.get(..MOST_KEPT).unwrap_or(&self.kept);
+        str::from_utf8(front).unwrap_or("")
     }
 }
 

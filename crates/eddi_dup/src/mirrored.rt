@@ -71,12 +71,6 @@ pub fn put_mirrored(ins: &Ins, at: u64, out: &mut Emit) -> Result<(), AllocError
         Class::Compute => out.push(on_pairs(ins)),
         Class::Load => out.put(&load_pair(ins)),
         Class::Store => out.put(&store_pair(ins)),
-        Class::Fence => Ok(()),
-        Class::Branch => unreachable!(),
-        Class::Jump => unreachable!(),
-        Class::JumpReg => unreachable!(),
-        Class::End => unreachable!(),
-        Class::Break => unreachable!(),
-        Class::Illegal => unreachable!(),
+        _ => Ok(()),
     }
 }

@@ -41,10 +41,8 @@ fn put_range(range: Range, out: &mut Emit) -> Result<(), AllocError>
 }
 
 /// Appends the comparisons of the data words of all ranges with their duplicates.
-///
-/// Errors: want of memory, and then the first of them are appended.
 #[tactic(auto, using(passes::specs::Emitted::part_none, passes::specs::Emitted::done_none, passes::specs::Emitted::done_more, passes::specs::Emitted::done_part, passes::specs::Emitted::done_all))]
-pub fn put_sweep(spans: &[Range], out: &mut Emit) -> Result<(), AllocError>
+fn put_sweep(spans: &[Range], out: &mut Emit) -> Result<(), AllocError>
     ensures all { OnOk result (out.new ≡ out.old ++ sweep (spans_of spans.now)) }
     ensures part { OnErr result (AppendsPart out.old out.new (sweep (spans_of spans.now))) }
 {
@@ -54,14 +52,16 @@ pub fn put_sweep(spans: &[Range], out: &mut Emit) -> Result<(), AllocError>
     Ok(())
 }
 
-/// Appends all comparisons.
+/// Appends the comparisons of the data words of all ranges, and of all registers.
+///
+/// Errors: want of memory, and then the first of them are appended.
 #[tactic(auto, using(passes::specs::Emitted::part_first, passes::specs::Emitted::part_second))]
-fn put_checks(spans: &[Range], ins: &Ins, at: u64, out: &mut Emit) -> Result<(), AllocError>
+pub fn put_checks(spans: &[Range], out: &mut Emit) -> Result<(), AllocError>
     ensures all { OnOk result (out.new ≡ out.old ++ (sweep (spans_of spans.now) ++ compare)) }
     ensures part { OnErr result (AppendsPart out.old out.new (sweep (spans_of spans.now) ++ compare)) }
 {
     put_sweep(spans, out)?;
-    CompareAll.emit(ins, at, out)?;
+    CompareAll.emit(&Ins::nop(), 0, out)?;
     Ok(())
 }
 
@@ -93,7 +93,7 @@ impl Pass for Sweep {
 
     #[tactic(auto, using(passes::specs::Emitted::part_none, passes::specs::Emitted::part_first, passes::specs::Emitted::part_second))]
     fn emit(&self, ins: &Ins, at: u64, out: &mut Emit) -> Result<(), AllocError> {
-        put_checks(self.span.as_slice(), ins, at, out)?;
+        put_checks(self.span.as_slice(), out)?;
         out.put(&[Item::Plain(*ins)])?;
         Ok(())
     }

@@ -232,12 +232,7 @@ impl Pass for Leave {
             Class::Branch => put_branch(ins, at, self.far, out),
             Class::Jump => put_jump(ins, at, out),
             Class::JumpReg => put_indirect(ins, at, out),
-            Class::End => out.put(&[Item::Plain(*ins)]),
-            Class::Illegal => out.put(&[Item::Plain(*ins)]),
-            Class::Load => unreachable!(),
-            Class::Store => unreachable!(),
-            Class::Fence => unreachable!(),
-            Class::Break => unreachable!(),
+            _ => out.put(&[Item::Plain(*ins)]),
         }
     }
 

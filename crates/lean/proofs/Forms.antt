@@ -13,10 +13,10 @@ use Rattle.qed_model.specs.Weave.Blocks.{begins_at, Options}
 use Rattle.qed_model.specs.Weave.Code.{Sequences, entries_of}
 use Rattle.tests.specs.Admission.Places.{base_of, image_of, half_of, code_place}
 use Rattle.qed_model.specs.Weave.Placed.{sum_of_sizes, rows_from, placed, leads_to, entry_of, Decode, EntriesAscend}
-use Rattle.qed_model.specs.Weave.Sequences.{Block, stub}
+use Rattle.qed_model.specs.Weave.Sequences.{Form, Block, stub}
 use Rattle.qed_model.specs.Weave.Bounds.{cost_of}
 use Rattle.qed_model.specs.Weave.Forms.{mirror_of, form_of}
-use Rattle.qed_model.specs.Weave.LeanCode.{lean_in, lean_of, lean_items, items_with as file_items, start_at, worded}
+use Rattle.qed_model.specs.Weave.LeanCode.{Lean, lean_in, lean_of, lean_items, items_with as file_items, start_at, worded}
 use Rattle.qed_model.proofs.Lemmas.{size-append, entry_inside}
 use Rattle.weave_core.proofs.TestKnown as there
 use Rattle.block_split.specs.declared.block.CodeBlock.{CodeBlock}
@@ -32,7 +32,7 @@ use Rattle.relinker.specs.Laid.{IsLaid, IsLinked, HasCause as HasCountCause}
 use Rattle.relinker.specs.Link.{is_encoded, most_bytes, IsLinkable}
 use Rattle.relinker.proofs.Joining.{parts_join}
 use Rattle.relinker.proofs.Linkable.{decoded, ascending}
-use Rattle.weave.specs.Form.{form_with, parts_to_stub}
+use Rattle.weave.specs.Form.{form_with, code_to_stub}
 use Rattle.weave.specs.Fits.{FitsBlock}
 use Rattle.weave.proofs.AdmittedFit.{blocks_fit}
 use Rattle.weave.proofs.WholeCode.{spans_are}
@@ -46,14 +46,14 @@ use Rattle.weave.proofs.LeanBytes.{few_lean_bytes}
 use Rattle.lean.specs.Code.{lean_with, code_with, items_with, IsLeanCut, IsLeanCodeOf, HasCause}
 use Rattle.lean.specs.Form.{code_at, code_of}
 
--- ---- a weaver with what was counted of the test makes its code
+-- ---- what a weaver with what was counted of the test makes, is made of the test; the most instructions of a piece are not asked for
 pub woven_is :
-    (t : Test) (o : Options) (every : ℕ) (blocks : List Block) (span : List Range) (diverse : Bool) (ticks : ℕ → Bool) (most : ℕ → ℕ) → span ≡ t.span → diverse ≡ o.diverse
-    → ((a : ℕ) → ticks a ≡ (lean_with t o every blocks).ticks a) → ((a : ℕ) → most a ≡ (lean_with t o every blocks).most a)
-    → (λ entry. worded (record { spans = spans_of span; round = o.round; far = false; sweep = o.sweep; mirror = mirror_of diverse; cost = cost_of diverse }) t.base entry (record { every = every; inst_max = 0; diverse = diverse; land = o.land; check = code_begin t + 124; ticks = ticks; most = most; start_of = start_at blocks }) (begins_at blocks))
-    ≡ code_with t o every blocks
-woven_is t o every blocks span diverse ticks most same kind p q = λ i entry.
-    worded (record { spans = spans_of (same i); round = o.round; far = false; sweep = o.sweep; mirror = mirror_of (kind i); cost = cost_of (kind i) }) t.base entry
+    {A : Type 0} (make : Form → ℕ → (ℕ → ℕ) → Lean → (ℕ → Bool) → A) (t : Test) (o : Options) (every : ℕ) (blocks : List Block) (span : List Range) (diverse : Bool) (ticks : ℕ → Bool) (most : ℕ → ℕ)
+    → span ≡ t.span → diverse ≡ o.diverse → ((a : ℕ) → ticks a ≡ (lean_with t o every blocks).ticks a) → ((a : ℕ) → most a ≡ (lean_with t o every blocks).most a)
+    → ◌≡◌ {A = (ℕ → ℕ) → A} (λ entry. make (record { spans = spans_of span; round = o.round; far = false; sweep = o.sweep; mirror = mirror_of diverse; cost = cost_of diverse }) t.base entry (record { every = every; inst_max = 0; diverse = diverse; land = o.land; check = code_begin t + 124; ticks = ticks; most = most; start_of = start_at blocks }) (begins_at blocks))
+    (λ entry. make (form_with (spans_of t.span) o false) t.base entry (record (lean_with t o every blocks) { inst_max = 0 }) (begins_at blocks))
+woven_is make t o every blocks span diverse ticks most same kind p q = λ i entry.
+    make (record { spans = spans_of (same i); round = o.round; far = false; sweep = o.sweep; mirror = mirror_of (kind i); cost = cost_of (kind i) }) t.base entry
     (record { every = every; inst_max = 0; diverse = kind i; land = o.land; check = code_begin t + 124; ticks = λ a. p a i; most = λ a. q a i; start_of = start_at blocks }) (begins_at blocks)
 
 -- ---- of a test
@@ -109,7 +109,7 @@ module _ (f : ElfFile) (o : Options) (every : ℕ) (t : Test) (blocks : List Cod
 
   whole : (entry : ℕ → ℕ) → of_test entry ++ stub ≡ of_file entry
   whole entry =
-      (λ i. parts_to_stub (same_code entry i) (c.told.distance i) (c.told.entry i) bs ++ stub) ∙ append_assoc ((file_code entry).first d f.entry) (entries_of (file_code entry) bs) stub
+      (λ i. code_to_stub (same_code entry i) (c.told.distance i) (c.told.entry i) bs ++ stub) ∙ append_assoc ((file_code entry).first d f.entry) (entries_of (file_code entry) bs) stub
 
   size : (entry : ℕ → ℕ) → sum_of_sizes false (of_file entry) ≡ sum_of_sizes false (of_test entry) + 4
   size entry = ap (sum_of_sizes false) (sym (whole entry)) ∙ size-append false (of_test entry) stub
@@ -153,11 +153,11 @@ module _ (f : ElfFile) (o : Options) (every : ℕ) (t : Test) (blocks : List Cod
 
   -- ---- a weaver of the test hands them on, where it knows the entries
   module _ (w : LeanWeaver) (code : code_at w ≡ code_with t o every bs) where
-    handed : (entry : ℕ → ℕ) → parts_to_stub (code_at w entry) t.distance t.entry bs ≡ of_test entry
-    handed entry = ap (λ (s : (ℕ → ℕ) → Sequences). parts_to_stub (s entry) t.distance t.entry bs) code
+    handed : (entry : ℕ → ℕ) → code_to_stub (code_at w entry) t.distance t.entry bs ≡ of_test entry
+    handed entry = ap (λ (s : (ℕ → ℕ) → Sequences). code_to_stub (s entry) t.distance t.entry bs) code
 
     -- it was counted without
-    module _ (count : Count) (near : count.far ≡ false) (counted : HasCounted count (parts_to_stub (code_of w) t.distance t.entry bs)) where
+    module _ (count : Count) (near : count.far ≡ false) (counted : HasCounted count (code_to_stub (code_of w) t.distance t.entry bs)) where
       has : HasCounted count items
       has = let first = leads_to w.entries.items w.last in counted_too first own count near (subst (HasCounted count) (handed first) counted)
 
@@ -219,10 +219,10 @@ module _ (f : ElfFile) (o : Options) (every : ℕ) (t : Test) (blocks : List Cod
           -- and its weaver hands on the items, which become the code
           module _ (knows : LeanWeaver) (placed_code : code_of knows ≡ code_at w (leads_to copy last)) where
             abbrev parts : List Item
-            parts = parts_to_stub (code_of knows) t.distance t.entry bs
+            parts = code_to_stub (code_of knows) t.distance t.entry bs
 
             same_parts : parts ≡ items
-            same_parts = ap (λ s. parts_to_stub s t.distance t.entry bs) placed_code ∙ handed (leads_to copy last) ∙ ap of_test known
+            same_parts = ap (λ s. code_to_stub s t.distance t.entry bs) placed_code ∙ handed (leads_to copy last) ∙ ap of_test known
 
             pub come : IsLaid layout [] parts
             come = subst (IsLaid layout []) (sym same_parts) all_laid

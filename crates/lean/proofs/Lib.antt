@@ -3,6 +3,6 @@ mod BodySteps
 mod Counting
 mod Finding
 mod Forms
+mod Leaves
 mod Owned
-mod Parts
-mod RoleRows
+mod Roles

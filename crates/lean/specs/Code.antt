@@ -6,6 +6,8 @@ use Rattle.tests.specs.declared.test.Test.{Test}
 use Rattle.tests.specs.Admission.Test.{IsTestOf}
 use Rattle.qed_model.specs.Weave.Blocks.{begins_at, ElfFile, Options}
 use Rattle.qed_model.specs.Weave.Code.{Sequences}
+use Rattle.qed_model.specs.Weave.Parts.{Parts}
+use Rattle.qed_model.specs.Weave.LeanParts.{worded_parts}
 use Rattle.qed_model.specs.Weave.Placed.{Decode, sum_of_sizes, rows_from, placed}
 use Rattle.tests.specs.Admission.Places.{image_of, code_place}
 use Rattle.qed_model.specs.Weave.Sequences.{Block}
@@ -16,7 +18,7 @@ use Rattle.plc_rounds.specs.Spans.{spans_of}
 use Rattle.relinker.specs.declared.error.LinkError.{LinkError}
 use Rattle.relinker.specs.declared.error.LinkError.TheVariants as error
 use Rattle.relinker.specs.declared.layout.Linked.{Linked}
-use Rattle.weave.specs.Form.{form_with, parts_to_stub}
+use Rattle.weave.specs.Form.{form_with, code_to_stub}
 use Rattle.weave.specs.Code.{code_begin}
 use Rattle.lean.specs.Tests.{AreLeanBlocks}
 
@@ -29,9 +31,13 @@ lean_with t o every blocks = lean_in o every blocks (code_begin t + 124) t.entry
 abbrev pub code_with : Test → Options → ℕ → List Block → (ℕ → ℕ) → Sequences
 code_with t o every blocks entry = worded (form_with (spans_of t.span) o false) t.base entry (lean_with t o every blocks) (begins_at blocks)
 
+-- and their parts
+abbrev pub parts_with : Test → Options → ℕ → List Block → (ℕ → ℕ) → Parts
+parts_with t o every blocks entry = worded_parts (form_with (spans_of t.span) o false) t.base entry (lean_with t o every blocks) (begins_at blocks)
+
 -- its items, all but the stub
 abbrev pub items_with : Test → Options → ℕ → List Block → (ℕ → ℕ) → List Item
-items_with t o every blocks entry = parts_to_stub (code_with t o every blocks entry) t.distance t.entry blocks
+items_with t o every blocks entry = code_to_stub (code_with t o every blocks entry) t.distance t.entry blocks
 
 -- ---- of a file
 -- the file is an admitted test, of which this is told, and these are its blocks

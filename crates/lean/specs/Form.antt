@@ -3,6 +3,8 @@ use Rattle.std.specs.Prelude.{◌≡◌, ℕ, ◌+◌, ◌*◌, false, List, len
 use Rattle.qed_model.specs.Weave.Blocks.{begins_at}
 use Rattle.qed_model.specs.Weave.Bounds.{cost_of}
 use Rattle.qed_model.specs.Weave.Code.{Sequences}
+use Rattle.qed_model.specs.Weave.Parts.{Parts}
+use Rattle.qed_model.specs.Weave.LeanParts.{worded_parts}
 use Rattle.qed_model.specs.Weave.Placed.{leads_to}
 use Rattle.qed_model.specs.Weave.Sequences.{Form, Block}
 use Rattle.qed_model.specs.Weave.Forms.{mirror_of}
@@ -16,7 +18,7 @@ use Rattle.lean.specs.Leaves.{Turns}
 
 -- ---- of a weaver
 abbrev pub form : LeanWeaver → Form
-form w = record { spans = spans_of w.visits.span; round = w.visits.round; far = false; sweep = w.sweeps; mirror = mirror_of w.passes.second.pass.diverse; cost = cost_of w.passes.second.pass.diverse }
+form w = record { spans = spans_of w.visits.span; round = w.visits.round; far = false; sweep = w.sweeps; mirror = mirror_of w.diverse; cost = cost_of w.diverse }
 
 abbrev pub blocks_in : LeanWeaver → List Block
 blocks_in w = map block_of w.blocks.now
@@ -26,7 +28,7 @@ abbrev pub lean : LeanWeaver → Lean
 lean w = record {
   every = w.every;
   inst_max = 0;
-  diverse = w.passes.second.pass.diverse;
+  diverse = w.diverse;
   land = w.land;
   check = w.check;
   ticks = ticks_in w.counts;
@@ -40,6 +42,13 @@ code_at w entry = worded (form w) w.base entry (lean w) (begins_at (blocks_in w)
 
 abbrev pub code_of : LeanWeaver → Sequences
 code_of w = code_at w (leads_to w.entries.items w.last)
+
+-- and their parts
+abbrev pub parts_at : LeanWeaver → (ℕ → ℕ) → Parts
+parts_at w entry = worded_parts (form w) w.base entry (lean w) (begins_at (blocks_in w))
+
+abbrev pub parts_of : LeanWeaver → Parts
+parts_of w = parts_at w (leads_to w.entries.items w.last)
 
 -- one of its blocks: its leave is found by where it stands, and the signature turns to where it goes on
 pub record IsOwn (w : LeanWeaver) (b : CodeBlock) : Type 0 where

@@ -1,12 +1,15 @@
 -- The parts of leaves, and the addresses to which the signature turns.
-use Rattle.std.specs.Prelude.{ℕ, ◌+◌, ◌-◌, ◌%◌, ◌^◌, Bool, cond, List, [], ◌∷◌, ◌++◌, pos, neg_ℤ, ◌≤ℤ◌}
+use Rattle.std.specs.Prelude.{ℕ, ◌+◌, ◌-◌, ◌%◌, ◌^◌, Bool, cond, Option, Some, None, List, [], ◌∷◌, ◌++◌, pos, neg_ℤ, ◌≤ℤ◌}
 use Rattle.rv_isa.specs.declared.class.Class.TheVariants as class
 use Rattle.qed_model.specs.declared.item.Item.{Item}
 use Rattle.qed_model.specs.declared.item.Item.TheVariants.{Plain, Constant}
 use Rattle.machine.specs.Step.{target, Ins, Class, class_of, ins, Add, Addi, Andi, Sub}
 use Rattle.machine.specs.Offsets.{distance_between}
-use Rattle.qed_model.specs.Weave.Sequences.{End, Falls, Stops, sweep, compare, SIGNATURE, TEMPORARY, pair}
-use Rattle.qed_model.specs.Weave.Lean.{turn, goes}
+use Rattle.qed_model.specs.declared.role.Role.{Role}
+use Rattle.qed_model.specs.declared.role.Role.TheVariants as role
+use Rattle.weave.specs.Leaves.{is_end}
+use Rattle.qed_model.specs.Weave.Sequences.{Form, End, Falls, Stops, sweep, compare, before_end, SIGNATURE, TEMPORARY, pair}
+use Rattle.qed_model.specs.Weave.Lean.{turn, goes, check_sign, leave_as}
 pub use Rattle.flow_tracking.specs.Leaving.{aim_of}
 
 -- ---- parts
@@ -26,6 +29,21 @@ ways fall a t n = goes a t ++ falls fall a n
 abbrev pub leap_sign : Ins → ℕ → List Item
 leap_sign i a =
     Plain (ins Add SIGNATURE SIGNATURE (pair i.rs1) (pos 0)) ∷ Plain (ins Addi SIGNATURE SIGNATURE 0 i.imm) ∷ Plain (ins Andi SIGNATURE SIGNATURE 0 (neg_ℤ (pos 2))) ∷ Constant TEMPORARY a ∷ Plain (ins Sub SIGNATURE SIGNATURE TEMPORARY (pos 0)) ∷ []
+
+-- ---- the leave in two: what stands before an ECALL, and the rest
+abbrev pub ecall_parts : Form → ℕ → List (Role × List Item)
+ecall_parts form a = (role.Sweep, compare) ∷ (role.Sign a, check_sign a) ∷ (role.Sweep, before_end form) ∷ []
+
+abbrev pub before_parts : Form → Option Ins → ℕ → List (Role × List Item)
+before_parts form end a = cond (is_end end) (ecall_parts form a) []
+
+abbrev pub last_as : (ℕ → List Item) → Class → Ins → ℕ → ℕ → List Item
+last_as fall class.End i a at = Plain i ∷ []
+last_as fall c i a at = leave_as [] fall c i a at
+
+abbrev pub last_items : (ℕ → List Item) → Option Ins → ℕ → ℕ → List Item
+last_items fall None a at = falls fall a at
+last_items fall (Some i) a at = last_as fall (class_of i.kind) i a at
 
 -- ---- where the signature turns
 -- the sum with 2048 is below 2^63

@@ -7,4 +7,3 @@ pub mod Leaves
 pub mod Counts
 pub mod Form
 pub mod Code
-pub mod Roles

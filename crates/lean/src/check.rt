@@ -1,21 +1,19 @@
 //! The check, one for all of the code.
 ghost use Rattle.std.specs.Prelude.{◌≡◌, ◌^◌, ◌≤◌, ◌<◌, ◌++◌, OnOk};
-ghost use Rattle.qed_model.specs.Weave.Sequences.{compare, visit};
-ghost use Rattle.qed_model.specs.Weave.Lean.{first_word as first_word_of, parted, called, begun, done, check, look_up, call_at as call_at_of};
+ghost use Rattle.qed_model.specs.Weave.Sequences.{compare};
+ghost use Rattle.qed_model.specs.Weave.Lean.{first_word as first_word_of, parted, called, begun, done, look_up};
 ghost use Rattle.plc_rounds.specs.Spans.{spans_of};
 
-use crate::tick::call_at;
 use eddi_dup::CompareAll;
 use flow_tracking::put_look_up;
 use passes::{Emit, Pass, plain};
-use plc_rounds::Visit;
 use qed_model::{Item, Range};
 use rv_isa::profile::{CURSOR, DISTANCE, SIGNATURE, SPARE, TEMPORARY};
 use rv_isa::{Ins, Kind, register};
 use std::alloc::AllocError;
 
 /// The address of the first data word, or where there is none the begin of the input.
-fn first_word(base: u64, span: &[Range]) -> u64
+pub(crate) fn first_word(base: u64, span: &[Range]) -> u64
     ensures { result ≡ first_word_of base (spans_of span.now) }
 {
     if span.is_empty() { base } else { span[0].start }
@@ -105,40 +103,33 @@ fn put_done(first: u64, every: u64, out: &mut Emit) -> Result<(), AllocError>
     Ok(())
 }
 
-/// The link, and what stands behind it: the comparison, the visits, and the way back to the entry.
-fn put_linked(
-    call: u64,
-    first: u64,
-    every: u64,
-    visits: &Visit,
-    out: &mut Emit,
-) -> Result<(), AllocError>
-    requires place { call ≤ 32 }
-    requires few { every ≤ 2048 }
-    ensures { OnOk result (out.new ≡ out.old ++ (called call ++ (compare ++ (begun first ++ (visit visits.now.round (spans_of visits.now.span) ++ (done first every ++ look_up)))))) }
+/// The link, and what stands behind it before the visits: the comparison, and the address of the next data word.
+fn put_linked(call: u64, first: u64, out: &mut Emit) -> Result<(), AllocError>
+    requires { call ≤ 32 }
+    ensures { OnOk result (out.new ≡ out.old ++ (called call ++ (compare ++ begun first))) }
 {
     put_called(call, out)?;
     put_compare(out)?;
     put_begun(first, out)?;
-    visits.emit(&Ins::nop(), 0, out)?;
-    put_done(first, every, out)?;
-    put_look_up(out)?;
     Ok(())
 }
 
-/// The check of an input that begins at `base`, which sets the counter to less `every`; entries test the signature or not.
-pub(crate) fn put_check(
-    base: u64,
-    land: bool,
-    every: u64,
-    visits: &Visit,
-    out: &mut Emit,
-) -> Result<(), AllocError>
-    requires { every ≤ 2048 }
-    ensures { OnOk result (out.new ≡ out.old ++ check base (call_at_of land) every visits.now.round (spans_of visits.now.span)) }
+/// The check up to the visits, of an input that begins at `base`. Ticks call it `call` bytes behind the entries.
+pub(crate) fn put_front(base: u64, call: u64, first: u64, out: &mut Emit) -> Result<(), AllocError>
+    requires { call ≤ 32 }
+    ensures { OnOk result (out.new ≡ out.old ++ (parted base ++ (called call ++ (compare ++ begun first)))) }
 {
     put_parted(base, out)?;
-    let first = first_word(base, visits.span.as_slice());
-    put_linked(call_at(land), first, every, visits, out)?;
+    put_linked(call, first, out)?;
+    Ok(())
+}
+
+/// The check behind the visits, which sets the counter to less `every`, and goes back to the entry.
+pub(crate) fn put_back(first: u64, every: u64, out: &mut Emit) -> Result<(), AllocError>
+    requires { every ≤ 2048 }
+    ensures { OnOk result (out.new ≡ out.old ++ (done first every ++ look_up)) }
+{
+    put_done(first, every, out)?;
+    put_look_up(out)?;
     Ok(())
 }

@@ -1,23 +1,22 @@
 //! The words of the lean form.
-ghost use Rattle.std.specs.Prelude.{◌≡◌, ◌+◌, ◌^◌, ◌<◌, ℕ, All, IfOk, IfErr, false, map};
+ghost use Rattle.std.specs.Prelude.{◌≡◌, ◌+◌, ◌^◌, ◌<◌, ℕ, IfOk, IfErr, false, map};
 ghost use Rattle.elf_types.specs.declared.file.ElfFile.{ElfFile};
 ghost use Rattle.block_split.specs.Listed.{block_of};
+ghost use Rattle.qed_model.specs.Weave.LeanParts.{lean_parts};
+ghost use Rattle.qed_model.specs.Weave.Parts.{role_rows};
 ghost use Rattle.qed_model.specs.Weave.Placed.{EntriesAscend, leads_to};
-ghost use Rattle.relinker.specs.Counted.{HasCounted};
-ghost use Rattle.weave.specs.Fits.{FitsBlock};
-ghost use Rattle.weave.specs.Form.{parts_to_stub};
-ghost use Rattle.lean.specs.Code.{code_with, IsLeanCut, IsLeanCodeOf, HasCause};
-ghost use Rattle.lean.specs.Form.{code_at, code_of, IsOwn};
+ghost use Rattle.lean.specs.Code.{code_with, parts_with, IsLeanCut, IsLeanCodeOf, HasCause};
+ghost use Rattle.lean.specs.Form.{code_at, code_of, parts_at};
 
 use crate::begin::BEGIN_BYTES;
 use crate::counts::counts_of;
-use crate::weaver::{LeanWeaver, lean_passes};
+use crate::weaver::LeanWeaver;
 use block_split::CodeBlock;
 use plc_rounds::Visit;
-use qed_model::{EntryRow, Options, Test};
-use relinker::{Count, LinkError, Linked, lay};
+use qed_model::{EntryRow, Options, RoleRow, Test};
+use relinker::{LinkError, Linked, lay};
 use std::alloc::{AllocError, Global};
-use weave::{copied, weave, written};
+use weave::{copied, counted, roles, written};
 
 /// What makes the parts of a test's lean form, before it is known where its entries stand.
 fn weaver<'a>(
@@ -29,12 +28,13 @@ fn weaver<'a>(
 ) -> Result<LeanWeaver<'a>, AllocError>
     requires { (f : ElfFile) × IsLeanCut f options.now every test.now blocks.now }
     ensures code { IfOk result (λ w. code_at w ≡ code_with test.now options.now every (map block_of blocks.now)) }
+    ensures parts { IfOk result (λ w. parts_at w ≡ parts_with test.now options.now every (map block_of blocks.now)) }
     ensures blocks { IfOk result (λ w. w.blocks.now ≡ blocks.now) }
 {
     let counts = counts_of(alloc, test, options, every, blocks)?;
     let span = copied(alloc, &test.span)?;
     Ok(LeanWeaver {
-        passes: lean_passes(options.diverse),
+        diverse: options.diverse,
         visits: Visit {
             round: options.round,
             span,
@@ -49,24 +49,6 @@ fn weaver<'a>(
         last: 0,
         counts,
     })
-}
-
-/// Counts the items. Where the entries are does not matter for that.
-fn counted(
-    alloc: Global,
-    weaver: &LeanWeaver,
-    test: &Test,
-    blocks: &[CodeBlock],
-) -> Result<Count, AllocError>
-    requires half { test.now.distance < 2 ^ 63 }
-    requires fit { All FitsBlock blocks.now }
-    requires own { All (IsOwn weaver.now) blocks.now }
-    ensures form { IfOk result (λ count. count.far ≡ false) }
-    ensures counted { IfOk result (λ count. HasCounted count (parts_to_stub (code_of weaver.now) test.now.distance test.now.entry (map block_of blocks.now))) }
-{
-    let mut count = Count::new(alloc, false);
-    weave(alloc, weaver, test.distance, test.entry, blocks, &mut count)?;
-    Ok(count)
 }
 
 /// Tells a weaver where the entries stand, and others.
@@ -95,10 +77,28 @@ pub fn lean_code(
     ensures cause { IfErr result (λ e. (f : ElfFile) → IsLeanCut f options.now every test.now blocks.now → HasCause f options.now every blocks.now e) }
 {
     let mut weaver = weaver(alloc, test, options, every, blocks)?;
-    let count = counted(alloc, &weaver, test, blocks)?;
+    let count = counted(alloc, &weaver, false, test, blocks)?;
     let layout = lay(alloc, count, test.base + 3 * test.distance)?;
     let entries = Vec::from_slice(alloc, layout.entries())?;
     place(&mut weaver, entries, layout.last());
     let linked = written(alloc, &weaver, layout, test, blocks)?;
     Ok(linked)
+}
+
+/// What the words of the lean form of an admitted test are for.
+///
+/// Errors: want of memory.
+pub fn lean_roles(
+    alloc: Global,
+    test: &Test,
+    options: &Options,
+    every: u64,
+    blocks: &[CodeBlock],
+) -> Result<Vec<RoleRow>, AllocError>
+    requires { (f : ElfFile) × IsLeanCut f options.now every test.now blocks.now }
+    ensures { IfOk result (λ rows. (f : ElfFile) → IsLeanCut f options.now every test.now blocks.now → rows.items ≡ role_rows false (lean_parts f options.now every (map block_of blocks.now))) }
+{
+    let weaver = weaver(alloc, test, options, every, blocks)?;
+    let rows = roles(alloc, &weaver, false, test, blocks)?;
+    Ok(rows)
 }

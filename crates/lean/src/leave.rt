@@ -7,25 +7,30 @@ ghost use Rattle.machine.specs.Step.{target as target_of};
 ghost use Rattle.qed_model.specs.Weave.Blocks.{begins_at as begins};
 ghost use Rattle.machine.specs.Table.{ins as ins_of};
 ghost use Rattle.qed_model.specs.Weave.Placed.{sum_of_sizes};
-ghost use Rattle.qed_model.specs.Weave.Sequences.{compare, guard, links};
-ghost use Rattle.qed_model.specs.Weave.Lean.{opposite as opposite_of, leave as leave_of, leave_as, check_sign, goes};
+ghost use Rattle.qed_model.specs.Weave.Sequences.{guard, links};
+ghost use Rattle.qed_model.specs.Weave.Lean.{opposite as opposite_of, leave_as, goes};
 ghost use Rattle.qed_model.specs.Weave.LeanCode.{fall_words};
 ghost use Rattle.plc_rounds.specs.Spans.{spans_of};
 ghost use Rattle.block_split.specs.Listed.{block_of, end_of};
 ghost use Rattle.weave.specs.Fits.{FitsEnd, FitsLeave};
-ghost use Rattle.lean.specs.Leaves.{before, falls, ways, aim_of, leap_sign, IsNear, TurnsAs, Turns};
+ghost use Rattle.weave.specs.Handed.{Comes, Handed};
+ghost use Rattle.lean.specs.Form.{form};
+ghost use Rattle.lean.specs.Leaves.{before, falls, ways, aim_of, leap_sign, ecall_parts, before_parts, last_as, last_items, IsNear, TurnsAs, Turns};
 
 use crate::blocks::begins_at;
 use crate::check::put_compare;
 use crate::turn::{goes_size, put_check_sign, put_goes, put_turn};
+use crate::weaver::LeanWeaver;
 use block_split::CodeBlock;
-use end_sweep::put_sweep;
+use end_sweep::put_checks;
 use flow_tracking::{put_guards_of, put_leap, put_links};
 use passes::{Emit, plain, put_guard, target};
-use qed_model::{Item, Range};
+use qed_model::{Item, Range, Role};
+use relinker::ItemSink;
 use rv_isa::profile::{SIGNATURE, TEMPORARY};
 use rv_isa::{Class, Ins, Kind, register};
 use std::alloc::AllocError;
+use weave::{PartSink, is_end};
 
 /// The branch that is taken where another is not.
 fn opposite(kind: Kind) -> Kind
@@ -68,27 +73,41 @@ fn put_before(sweeps: bool, span: &[Range], out: &mut Emit) -> Result<(), AllocE
     ensures { OnOk result (out.new ≡ out.old ++ before sweeps (spans_of span.now)) }
 {
     if sweeps {
-        put_sweep(span, out)?;
-        put_compare(out)?;
+        put_checks(span, out)?;
     }
     Ok(())
 }
 
-/// The leave of an ECALL.
-fn put_end(
-    sweeps: bool,
-    span: &[Range],
-    ins: &Ins,
-    start: u64,
-    out: &mut Emit,
-) -> Result<(), AllocError>
-    ensures { OnOk result (out.new ≡ out.old ++ (compare ++ (check_sign start ++ (before sweeps (spans_of span.now) ++ (Plain ins.now ∷ []))))) }
-{
-    put_compare(out)?;
-    put_check_sign(start, out)?;
-    put_before(sweeps, span, out)?;
-    out.push(Item::Plain(*ins))?;
-    Ok(())
+impl<'a> LeanWeaver<'a> {
+    /// Hands on what stands before an ECALL in the block that begins at `start`.
+    fn before_ecall<S: ItemSink>(&self, start: u64, to: &mut PartSink<S>) -> Result<(), AllocError>
+        requires { Comes (S.took to.old.sink) to.old.items (ecall_parts (form self.now) start) }
+        ensures { OnOk result (Handed (S.took to.old.sink) (S.took to.new.sink) to.new.items (ecall_parts (form self.now) start)) }
+    {
+        put_compare(&mut to.items)?;
+        to.end(Role::Sweep)?;
+        put_check_sign(start, &mut to.items)?;
+        to.end(Role::Sign(start))?;
+        put_before(self.sweeps, self.visits.span.as_slice(), &mut to.items)?;
+        to.end(Role::Sweep)?;
+        Ok(())
+    }
+
+    /// Hands on what stands before the end of the block that begins at `start`, if it is an ECALL.
+    pub(crate) fn before_end<S: ItemSink>(
+        &self,
+        end: &Option<Ins>,
+        start: u64,
+        to: &mut PartSink<S>,
+    ) -> Result<(), AllocError>
+        requires { Comes (S.took to.old.sink) to.old.items (before_parts (form self.now) end.now start) }
+        ensures { OnOk result (Handed (S.took to.old.sink) (S.took to.new.sink) to.new.items (before_parts (form self.now) end.now start)) }
+    {
+        if is_end(end) {
+            self.before_ecall(start, to)?;
+        }
+        Ok(())
+    }
 }
 
 /// The leave of a JAL.
@@ -180,53 +199,44 @@ fn put_indirect(ins: &Ins, start: u64, at: u64, out: &mut Emit) -> Result<(), Al
     Ok(())
 }
 
-/// What a leave depends on besides its block.
-#[derive(Clone, Copy, Drop)]
-pub(crate) struct Leaves<'a> {
-    pub(crate) blocks: &'a [CodeBlock],
-    pub(crate) span: &'a [Range],
-    pub(crate) sweeps: bool,
-}
-
 /// The leave of an instruction that ends a block.
 fn put_stop(
-    leaves: &Leaves,
+    blocks: &[CodeBlock],
     ins: &Ins,
     start: u64,
     at: u64,
     out: &mut Emit,
 ) -> Result<(), AllocError>
-    requires ascend { AllPairs (λ b c. b.start < c.start) leaves.now.blocks.now }
+    requires ascend { AllPairs (λ b c. b.start < c.start) blocks.now }
     requires fits { FitsLeave (class_of ins.now.kind) ins.now }
     requires near { TurnsAs (class_of ins.now.kind) ins.now start at }
-    ensures { OnOk result (out.new ≡ out.old ++ leave_as (before leaves.now.sweeps (spans_of leaves.now.span.now)) (fall_words (begins (map block_of leaves.now.blocks.now))) (class_of ins.now.kind) ins.now start at) }
+    ensures { OnOk result (out.new ≡ out.old ++ last_as (fall_words (begins (map block_of blocks.now))) (class_of ins.now.kind) ins.now start at) }
 {
     match ins.class() {
-        Class::End => put_end(leaves.sweeps, leaves.span, ins, start, out)?,
         Class::Jump => put_jump(ins, start, at, out)?,
-        Class::Branch => put_branch(leaves.blocks, ins, start, at, out)?,
+        Class::Branch => put_branch(blocks, ins, start, at, out)?,
         Class::JumpReg => put_indirect(ins, start, at, out)?,
         _ => out.push(Item::Plain(*ins))?,
     }
     Ok(())
 }
 
-/// The leave of a block that begins at `start` and has its end at `at`.
+/// The leave of a block that begins at `start` and has its end at `at`, without what stands before an ECALL.
 pub(crate) fn put_leave(
-    leaves: &Leaves,
+    blocks: &[CodeBlock],
     end: &Option<Ins>,
     start: u64,
     at: u64,
     out: &mut Emit,
 ) -> Result<(), AllocError>
-    requires ascend { AllPairs (λ b c. b.start < c.start) leaves.now.blocks.now }
+    requires ascend { AllPairs (λ b c. b.start < c.start) blocks.now }
     requires fits { FitsEnd end.now }
     requires near { Turns (end_of end.now) start at }
-    ensures { OnOk result (out.new ≡ out.old ++ leave_of (before leaves.now.sweeps (spans_of leaves.now.span.now)) (fall_words (begins (map block_of leaves.now.blocks.now))) (end_of end.now) start at) }
+    ensures { OnOk result (out.new ≡ out.old ++ last_items (fall_words (begins (map block_of blocks.now))) end.now start at) }
 {
     match end {
-        None => put_next(leaves.blocks, start, at, out)?,
-        Some(ins) => put_stop(leaves, ins, start, at, out)?,
+        None => put_next(blocks, start, at, out)?,
+        Some(ins) => put_stop(blocks, ins, start, at, out)?,
     }
     Ok(())
 }

@@ -1,9 +1,10 @@
-//! The entry of a block.
-ghost use Rattle.std.specs.Prelude.{◌≡◌, ◌^◌, ◌<◌, ◌≤◌, ◌++◌, OnOk};
-ghost use Rattle.qed_model.specs.Weave.Lean.{tick, enter, call_at as call_at_of};
+//! The entry of a block: its mark, and its tick.
+ghost use Rattle.std.specs.Prelude.{◌≡◌, ◌^◌, ◌<◌, ◌≤◌, [], ◌∷◌, ◌++◌, OnOk, cond};
+ghost use Rattle.qed_model.specs.Weave.Lean.{check_sign, tick, call_at as call_at_of};
 
 use crate::turn::put_check_sign;
 use passes::{Emit, plain};
+use qed_model::Item;
 use rv_isa::profile::{CURSOR, SPARE};
 use rv_isa::{Kind, register};
 use std::alloc::AllocError;
@@ -17,7 +18,7 @@ pub(crate) fn call_at(land: bool) -> u64
 }
 
 /// Counts so many steps, and calls the check, which stands so far from the call, where not so many are left.
-fn put_tick(steps: u64, distance: i64, out: &mut Emit) -> Result<(), AllocError>
+pub(crate) fn put_tick(steps: u64, distance: i64, out: &mut Emit) -> Result<(), AllocError>
     requires { steps < 2 ^ 63 }
     ensures { OnOk result (out.new ≡ out.old ++ tick steps distance) }
 {
@@ -32,23 +33,13 @@ fn put_tick(steps: u64, distance: i64, out: &mut Emit) -> Result<(), AllocError>
     Ok(())
 }
 
-/// The tick of the block that begins at `at`, where it has one, and with `land` a test of the signature before it.
-pub(crate) fn put_enter(
-    land: bool,
-    ticks: bool,
-    at: u64,
-    steps: u64,
-    distance: i64,
-    out: &mut Emit,
-) -> Result<(), AllocError>
-    requires { steps < 2 ^ 63 }
-    ensures { OnOk result (out.new ≡ out.old ++ enter land ticks at steps distance) }
+/// The mark of the block that begins at `at`, and with `land` a test of the signature.
+pub(crate) fn put_mark(land: bool, at: u64, out: &mut Emit) -> Result<(), AllocError>
+    ensures { OnOk result (out.new ≡ out.old ++ Item.Mark at ∷ cond land (check_sign at) []) }
 {
+    out.push(Item::Mark(at))?;
     if land {
         put_check_sign(at, out)?;
-    }
-    if ticks {
-        put_tick(steps, distance, out)?;
     }
     Ok(())
 }

@@ -1,46 +1,32 @@
 //! What makes the parts of the lean form of a test.
-ghost use Rattle.std.specs.Prelude.{◌≡◌, ◌+◌, ◌^◌, ◌<◌, ◌≤◌, ℕ, AllPairs};
+ghost use Rattle.std.specs.Prelude.{◌≡◌, ◌+◌, ◌^◌, ◌<◌, ◌≤◌, ◌++◌, [], ℕ, AllPairs, OnOk, cond};
+ghost use Rattle.machine.specs.Offsets.{distance_between as distance_of};
+ghost use Rattle.qed_model.specs.Weave.Lean.{tick, call_at as call_place};
 ghost use Rattle.qed_model.specs.Weave.Placed.{EntriesAscend, leads_to};
-ghost use Rattle.lean.specs.Counts.{most_in};
+ghost use Rattle.lean.specs.Counts.{ticks_in, most_in};
 
 use crate::begin::put_begin;
-use crate::check::put_check;
+use crate::check::{first_word, put_back, put_front};
 use crate::counts::{Counts, counted_at};
-use crate::leave::{Leaves, put_leave};
-use crate::tick::{call_at, put_enter};
+use crate::leave::put_leave;
+use crate::tick::{call_at, put_mark, put_tick};
 use block_split::CodeBlock;
 use eddi_dup::Original;
 use guard_insert::Guarded;
 use mirror_forms::Mirror;
-use passes::{Each, Emit, PassAll, Then};
+use passes::{Emit, Pass};
 use plc_rounds::Visit;
-use qed_model::{EntryRow, Item};
-use relinker::{distance_between, place_of};
+use qed_model::{EntryRow, Role};
+use relinker::{ItemSink, distance_between, place_of};
 use rv_isa::Ins;
 use std::alloc::AllocError;
-use weave::Weaving;
-
-/// The passes of a piece.
-pub(crate) type LeanPasses = Then<Each<Guarded<Original>>, Each<Mirror>>;
-
-/// Those whose mirror parts are of the same kinds or of others.
-pub(crate) fn lean_passes(diverse: bool) -> LeanPasses
-    ensures { result.second.pass.diverse ≡ diverse }
-{
-    Then {
-        first: Each {
-            pass: Guarded { pass: Original },
-        },
-        second: Each {
-            pass: Mirror { diverse },
-        },
-    }
-}
+use weave::{Half, PartSink, Weaving, weave_each};
 
 /// Makes the parts of the lean form of a test with these blocks.
 #[derive(Drop)]
 pub(crate) struct LeanWeaver<'a> {
-    pub(crate) passes: LeanPasses,
+    /// Mirror parts are of other kinds.
+    pub(crate) diverse: bool,
     pub(crate) visits: Visit,
     pub(crate) sweeps: bool,
     /// Each entry tests the signature.
@@ -72,47 +58,88 @@ impl<'a> LeanWeaver<'a> {
     {
         place_of(&self.entries, address).unwrap_or(self.last)
     }
+
+    /// Appends the tick of the block that begins at an address, where it has one.
+    fn put_tick_of(&self, start: u64, out: &mut Emit) -> Result<(), AllocError>
+        ensures { OnOk result (out.new ≡ out.old ++ cond (ticks_in self.now.counts start) (tick (most_in self.now.counts start) (distance_of (leads_to self.now.entries.items self.now.last start + call_place self.now.land) self.now.check)) []) }
+    {
+        let counted = counted_at(&self.counts, start);
+        if counted.ticks {
+            let call = self.entry(start) + call_at(self.land);
+            put_tick(counted.most, distance_between(call, self.check), out)?;
+        }
+        Ok(())
+    }
 }
 
 impl<'a> Weaving for LeanWeaver<'a> {
-    ghost use Rattle.lean.specs.Form.{code_of, IsOwn};
+    ghost use Rattle.qed_model.proofs.Lemmas.{lean_are};
+    ghost use Rattle.qed_model.specs.Weave.Blocks.{begins_at};
+    ghost use Rattle.qed_model.specs.Weave.Placed.{leads_to};
+    ghost use Rattle.lean.specs.Form.{code_of, parts_of, form, lean, blocks_in, IsOwn};
 
     ghost code = { λ w. code_of w };
 
+    ghost parts = { λ w. parts_of w };
+
     ghost is_for = { λ w b. IsOwn w b };
 
-    fn first(&self, distance: u64, entry: u64, out: &mut Emit) -> Result<(), AllocError> {
-        put_begin(distance, entry, out)?;
-        put_check(self.base, self.land, self.every, &self.visits, out)
-    }
-
-    fn enter(&self, block: &CodeBlock, out: &mut Emit) -> Result<(), AllocError> {
-        let counted = counted_at(&self.counts, block.start);
-        let call = self.entry(block.start) + call_at(self.land);
-        out.push(Item::Mark(block.start))?;
-        let distance = distance_between(call, self.check);
-        put_enter(
-            self.land,
-            counted.ticks,
-            block.start,
-            counted.most,
-            distance,
-            out,
-        )
-    }
-
-    fn piece(&self, list: &[Ins], at: u64, out: &mut Emit) -> Result<(), AllocError> {
-        self.passes.emit_all(list, at, out)?;
+    fn first<S: ItemSink>(
+        &self,
+        distance: u64,
+        entry: u64,
+        to: &mut PartSink<S>,
+    ) -> Result<(), AllocError> {
+        put_begin(distance, entry, &mut to.items)?;
+        to.end(Role::Start)?;
+        let first = first_word(self.base, self.visits.span.as_slice());
+        put_front(self.base, call_at(self.land), first, &mut to.items)?;
+        to.end(Role::Check)?;
+        self.visits.emit(&Ins::nop(), 0, &mut to.items)?;
+        to.end(Role::CheckVisit)?;
+        put_back(first, self.every, &mut to.items)?;
+        to.end(Role::Check)?;
         Ok(())
     }
 
-    fn leave(&self, block: &CodeBlock, out: &mut Emit) -> Result<(), AllocError> {
-        let at = block.start + 4 * block.body.as_slice().len() as u64;
-        let leaves = Leaves {
-            blocks: self.blocks,
-            span: self.visits.span.as_slice(),
-            sweeps: self.sweeps,
-        };
-        put_leave(&leaves, &block.end, block.start, at, out)
+    fn enter<S: ItemSink>(
+        &self,
+        block: &CodeBlock,
+        to: &mut PartSink<S>,
+    ) -> Result<(), AllocError> {
+        put_mark(self.land, block.start, &mut to.items)?;
+        to.end(Role::Sign(block.start))?;
+        self.put_tick_of(block.start, &mut to.items)?;
+        to.end(Role::Tick(block.start))?;
+        Ok(())
     }
+
+    fn piece<S: ItemSink>(
+        &self,
+        list: &[Ins],
+        at: u64,
+        to: &mut PartSink<S>,
+    ) -> Result<(), AllocError> {
+        let originals = Guarded { pass: Original };
+        let mirrors = Mirror {
+            diverse: self.diverse,
+        };
+        weave_each(&originals, Half::Original, list, at, to)?;
+        weave_each(&mirrors, Half::Mirror, list, at, to)?;
+        Ok(())
+    }
+
+    fn leave<S: ItemSink>(
+        &self,
+        block: &CodeBlock,
+        to: &mut PartSink<S>,
+    ) -> Result<(), AllocError> {
+        let at = block.start + 4 * block.body.as_slice().len() as u64;
+        self.before_end(&block.end, block.start, to)?;
+        put_leave(self.blocks, &block.end, block.start, at, &mut to.items)?;
+        to.end(Role::Leave(at))?;
+        Ok(())
+    }
+
+    ghost whole = { λ w. lean_are (form w) w.base (leads_to w.entries.items w.last) (lean w) (begins_at (blocks_in w)) };
 }

@@ -17,8 +17,7 @@ pub use Rattle.qed_model.proofs.Nearby.{IsNearCode, is_near, is_within, near_con
 pub use Rattle.qed_model.proofs.WovenWords.{add_word, branch_imm, branch_word, jump_imm, leap_imm, mirror_load_word, mirror_store_word, near_imm}
 pub use Rattle.qed_model.proofs.BlocksOnly.{Ascend, any_first, ascend_of, blocks_only, body_code, run_prefix, same_tests}
 pub use Rattle.qed_model.proofs.OneTest.{any_reached, reached_by}
-pub use Rattle.qed_model.proofs.RoleParts.{behind_guards, guards_joined, roles_cover}
-pub use Rattle.qed_model.proofs.LeanRoleParts.{behind, lean_roles_cover}
+pub use Rattle.qed_model.proofs.Parts.{joined_append, lean_are, parts_are, roles_cover, to_stub_joined}
 pub use Rattle.qed_model.proofs.OutputFits.{length-map_bytes, local_pairs, locals, map_placed, name_at, names_fit, not_null, others, symbols_fit}
 pub use Rattle.qed_model.proofs.Steady.{steady_any}
 pub use Rattle.qed_model.proofs.OneOutput.{one_woven_test, same_words}

@@ -1,7 +1,6 @@
 //! What the definitions say of each other.
-ghost use Rattle.qed_model.specs.Weave.LeanRoles.{LeanRolesCover};
 ghost use Rattle.qed_model.specs.Weave.Output.{InputHasOneOutput};
-ghost use Rattle.qed_model.specs.Weave.Roles.{RolesCover};
+ghost use Rattle.qed_model.specs.Weave.Woven.{RolesCover};
 
 /// With the same options the same bytes have one output.
 pub fn input_has_one_output()
@@ -10,6 +9,5 @@ pub fn input_has_one_output()
 
 /// Each item of the new code has one role, in either form.
 pub fn roles_cover()
-    ensures compared { RolesCover }
-    ensures lean { LeanRolesCover }
+    ensures { RolesCover }
 {}

@@ -4,5 +4,6 @@ pub mod Laying
 pub mod Linkable
 mod Places
 mod Reach
+pub mod RoleRows
 mod Rows
 mod Words

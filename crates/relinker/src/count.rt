@@ -6,11 +6,11 @@ ghost use Rattle.relinker.specs.Counted.{capped, HasCounted};
 
 use crate::ItemSink;
 use passes::Emit;
-use qed_model::{EntryRow, Item};
+use qed_model::{EntryRow, Item, Role};
 use std::alloc::{AllocError, Global};
 
 /// The bytes that an item takes, where a jump to an entry is near or far.
-fn size(far: bool, item: &Item) -> u64
+pub(crate) fn size(far: bool, item: &Item) -> u64
     ensures value { result ≡ size_of far item.now }
     ensures bound { result ≤ 8 }
 {
@@ -102,11 +102,13 @@ impl Count {
 
 impl ItemSink for Count {
     ghost use Rattle.std.specs.Prelude.{◌≡◌};
+    ghost use Rattle.qed_model.specs.Weave.Parts.{joined};
     ghost use Rattle.relinker.specs.Counted.{HasCounted};
 
-    ghost took = { λ count form done rest. (count.far ≡ form.0) × HasCounted count done };
+    ghost took = { λ count form done rest. (count.far ≡ form.0) × HasCounted count (joined done) };
 
-    fn take(&mut self, items: &Emit) -> Result<(), AllocError> {
-        self.add(items)
+    fn take(&mut self, _role: Role, items: &Emit) -> Result<(), AllocError> {
+        self.add(items)?;
+        Ok(())
     }
 }

@@ -13,7 +13,7 @@ use crate::error::LinkError;
 use crate::write::{put_items, put_stub};
 use passes::Emit;
 use qed_model::limits::{CODE_ROOM, MAX_CODE_BYTES, MAX_NEAR_CODE_BYTES};
-use qed_model::{EntryRow, Item};
+use qed_model::{EntryRow, Item, Role};
 use std::alloc::{AllocError, Global};
 
 /// The most bytes of the near form, and of the far form.
@@ -144,11 +144,12 @@ impl Layout {
 }
 
 impl ItemSink for Layout {
+    ghost use Rattle.qed_model.specs.Weave.Parts.{joined};
     ghost use Rattle.relinker.specs.Laid.{IsLaidIn};
 
-    ghost took = { λ layout form done rest. IsLaidIn layout form done rest };
+    ghost took = { λ layout form done rest. IsLaidIn layout form (joined done) (joined rest) };
 
-    fn take(&mut self, items: &Emit) -> Result<(), AllocError> {
+    fn take(&mut self, _role: Role, items: &Emit) -> Result<(), AllocError> {
         self.add(items);
         Ok(())
     }

@@ -1,22 +1,24 @@
 //! What takes the items of new code part by part, in order.
-ghost use Rattle.std.specs.Prelude.{OnOk};
+ghost use Rattle.std.specs.Prelude.{[], ◌∷◌, OnOk};
 ghost use Rattle.relinker.specs.Sink.{ComeNext, Takes};
 
 use passes::Emit;
+use qed_model::Role;
 use std::alloc::AllocError;
 
 /// Takes the items of new code, one part after the other.
 pub trait ItemSink {
     ghost use Rattle.std.specs.Prelude.{ℕ, Bool, List};
     ghost use Rattle.qed_model.specs.declared.item.Item.{Item};
+    ghost use Rattle.qed_model.specs.declared.role.Role.{Role};
 
-    // Of code that is near or far and begins at an address these items were taken, and those are still to come.
-    ghost took: { Self → Bool × ℕ → List Item → List Item → Type 0 };
+    // Of code that is near or far and begins at an address these parts were taken, and those are still to come.
+    ghost took: { Self → Bool × ℕ → List (Role × List Item) → List (Role × List Item) → Type 0 };
 
-    /// Takes the next items.
+    /// Takes the next items, which are for something.
     ///
     /// Errors: want of memory.
-    fn take(&mut self, items: &Emit) -> Result<(), AllocError>
-        requires { ComeNext (took self.old) items.now }
-        ensures { OnOk result (Takes (took self.old) (took self.new) items.now) };
+    fn take(&mut self, role: Role, items: &Emit) -> Result<(), AllocError>
+        requires { ComeNext (took self.old) ((role, items.now) ∷ []) }
+        ensures { OnOk result (Takes (took self.old) (took self.new) ((role, items.now) ∷ [])) };
 }

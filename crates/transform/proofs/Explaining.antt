@@ -5,14 +5,13 @@ use Rattle.tests.specs.declared.options.Options.{Options}
 use Rattle.qed_model.specs.declared.plan.Plan.{Plan}
 use Rattle.tests.specs.declared.test.Test.{Test}
 use Rattle.machine.specs.Limits.{limit_of}
-use Rattle.qed_model.specs.Weave.LeanRoles.{new_roles}
 use Rattle.qed_model.specs.Weave.Sequences.{Block}
-use Rattle.qed_model.specs.Weave.Woven.{code_as, size_of_code}
+use Rattle.qed_model.specs.Weave.Woven.{code_as, new_roles, size_of_code}
 use Rattle.tests.specs.Files.File.{File}
 use Rattle.qed_model.specs.Weave.Output.{HasNewCode}
 use Rattle.block_split.specs.declared.block.CodeBlock.{CodeBlock}
 use Rattle.block_split.specs.Listed.{block_of}
-use Rattle.weave.specs.declared.code.WovenCode.{WovenCode}
+use Rattle.transform.specs.declared.made.Coded.{Coded}
 use Rattle.weave.specs.Code.{code_begin, IsCut}
 use Rattle.transform.specs.declared.explained.Explained.{Explained}
 use Rattle.transform.specs.Explained.{IsExplained}
@@ -26,7 +25,7 @@ most_room f o bs None few = few
 most_room f o bs (Some every) few = omega (arith, few)
 
 pub explained_of :
-    (input : List ℕ) (o : Options) (t : Test) (blocks : List CodeBlock) (output : List ℕ) (plan : Plan) (x : Explained) (code : WovenCode)
+    (input : List ℕ) (o : Options) (t : Test) (blocks : List CodeBlock) (output : List ℕ) (plan : Plan) (x : Explained) (code : Coded)
     → Transforms input o output plan → File input x.file → IsCut x.file o t blocks → IsCoded (code_for x.file o blocks) x.file o code → x.words.items ≡ code.linked.words.items
     → x.base ≡ code_begin t → x.roles.items ≡ new_roles x.file o (map block_of blocks) → IsExplained input o x
 explained_of input o t blocks output plan x code made read cut is same base roles =

@@ -1,6 +1,7 @@
 -- What is known of a test with its blocks.
-use Rattle.std.proofs.Common.{◌≡◌, ℕ, ◌+◌, ◌^◌, ◌<◌, ◌≤◌, Bool, true, false, List, length, map, All, get_or, ap, ◌∙◌, arith}
+use Rattle.std.proofs.Common.{◌≡◌, ℕ, ◌+◌, ◌^◌, ◌<◌, ◌≤◌, Bool, true, false, List, length, map, All, get_or, refl, ap, ◌∙◌, arith, Option, Some, None, SomeIff, IsSome, sym}
 use Rattle.tests.specs.declared.options.Options.{Options}
+use Rattle.qed_model.specs.declared.bounds.Bounds.{Bounds}
 use Rattle.qed_model.specs.declared.plan.EntryRow.{EntryRow}
 use Rattle.tests.specs.declared.test.Test.{Test}
 use Rattle.tests.specs.Admission.CodeWords.{is_code, ElfFile}
@@ -77,3 +78,12 @@ pub same_shape :
 same_shape f o far words ranges w r =
     ap (λ n. record (shape_of f o far) { words = n; ranges = ranges }) w
     ∙ ap (λ n. record (shape_of f o far) { ranges = n }) r
+
+-- ---- bounds that fit are found
+pub found_some : (r : Option Bounds) (b : Bounds) → SomeIff r (AreSmall b) b → AreSmall b → IsSome r
+found_some None b h small = absurd (h small)
+found_some (Some x) b h small = refl
+
+pub found_is : (r : Option Bounds) (b x : Bounds) → SomeIff r (AreSmall b) b → r ≡ Some x → x ≡ b
+found_is None b x h e = cc
+found_is (Some y) b x h e = let same : y ≡ x = cc in sym same ∙ h.1

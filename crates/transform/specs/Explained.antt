@@ -3,9 +3,8 @@ use Rattle.std.specs.Prelude.{◌≡◌, ℕ, ◌+◌, ◌*◌, ◌^◌, ◌<◌
 use Rattle.tests.specs.declared.options.Options.{Options}
 use Rattle.qed_model.specs.declared.plan.Plan.{Plan}
 use Rattle.tests.specs.Admission.Places.{image_of, code_place}
-use Rattle.qed_model.specs.Weave.LeanRoles.{new_roles}
 use Rattle.qed_model.specs.Weave.Sequences.{Block}
-use Rattle.qed_model.specs.Weave.Woven.{new_code, size_of_code}
+use Rattle.qed_model.specs.Weave.Woven.{new_code, new_roles, size_of_code}
 use Rattle.qed_model.specs.Weave.Output.{HasNewCode}
 use Rattle.transform.specs.declared.explained.Explained.{Explained}
 use Rattle.transform.specs.Transform.{Transforms}

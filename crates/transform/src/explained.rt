@@ -4,9 +4,10 @@ ghost use Rattle.block_split.specs.Listed.{block_of};
 ghost use Rattle.transform.specs.declared.error.TransformError.{TransformError as Refusal};
 ghost use Rattle.transform.specs.declared.whole.Transformed.{Transformed as Output};
 ghost use Rattle.qed_model.specs.Weave.SoundOptions.{AreSoundOptions};
-ghost use Rattle.qed_model.specs.Weave.LeanRoles.{new_roles};
+ghost use Rattle.qed_model.specs.Weave.Woven.{new_roles};
 ghost use Rattle.weave.specs.Code.{IsCut};
 ghost use Rattle.transform.specs.Explained.{IsExplained};
+ghost use Rattle.transform.specs.Made.{code_for};
 ghost use Rattle.transform.specs.Transform.{Transforms, HasCause, IsTransformable, IsErrorOr, IsDoneOr};
 
 use crate::cut::{CutTest, cut_test};
@@ -32,13 +33,19 @@ pub struct Explained {
 }
 
 /// What the words of the new code are for.
-fn roles_of(alloc: Global, cut: &CutTest, options: &Options) -> Result<Vec<RoleRow>, AllocError>
-    requires { IsCut cut.now.file options.now cut.now.test cut.now.blocks }
+fn roles_of(
+    alloc: Global,
+    cut: &CutTest,
+    options: &Options,
+    far: bool,
+) -> Result<Vec<RoleRow>, AllocError>
+    requires cut { IsCut cut.now.file options.now cut.now.test cut.now.blocks }
+    requires far { far ≡ (code_for cut.now.file options.now cut.now.blocks).far }
     ensures { IfOk result (λ rows. rows.items ≡ new_roles cut.now.file options.now (map block_of cut.now.blocks)) }
 {
     let blocks = cut.blocks.as_slice();
     match options.lean {
-        None => code_roles(alloc, &cut.test, options, blocks),
+        None => code_roles(alloc, &cut.test, options, blocks, far),
         Some(every) => lean_roles(alloc, &cut.test, options, every, blocks),
     }
 }
@@ -57,7 +64,7 @@ fn explain_made(
 {
     let cut = cut_test(alloc, bytes, options)?;
     let code = code_of(alloc, &cut, options)?;
-    let roles = roles_of(alloc, &cut, options)?;
+    let roles = roles_of(alloc, &cut, options, code.far)?;
     Ok(Explained {
         base: cut.test.base + 3 * cut.test.distance,
         file: cut.file,

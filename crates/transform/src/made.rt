@@ -8,8 +8,6 @@ ghost use Rattle.tests.specs.Elf.Layout.{written};
 ghost use Rattle.tests.specs.Files.File.{IsReadAs};
 ghost use Rattle.machine.specs.Apart.{AllFitMemory, AreApart};
 ghost use Rattle.machine.specs.Loading.{load_segments};
-ghost use Rattle.qed_model.specs.Weave.Bounds.{bounds_of};
-ghost use Rattle.qed_model.specs.Weave.LeanBounds.{lean_bounds as lean_bounds_of};
 ghost use Rattle.qed_model.specs.Weave.Forms.{shape_of as shape_of_test};
 ghost use Rattle.weave.specs.Code.{IsCut};
 ghost use Rattle.transform.specs.Made.{code_for, IsCoded, IsMade, Exceeds};
@@ -24,68 +22,15 @@ use lean::lean_code;
 use output_file::{bare_file, has_table, plan, symbols_size, with_symbols, word_count};
 use qed_model::limits::{MAX_OUTPUT_BYTES, MAX_OUTPUT_SEGMENTS};
 use qed_model::{Bounds, Limit, Options, Plan, Shape};
-use relinker::LinkError;
+use relinker::{LinkError, Linked};
 use std::alloc::{AllocError, Global};
-use weave::{WovenCode, woven_code};
+use weave::woven_code;
 
 /// An output before it is written, and what is told of it.
 #[derive(Debug, Drop)]
 pub(crate) struct Made {
     pub out: OutFile,
     pub plan: Plan,
-}
-
-/// The new code with comparisons behind pieces.
-fn compared_code(
-    alloc: Global,
-    cut: &CutTest,
-    options: &Options,
-) -> Result<WovenCode, TransformError>
-    requires cut { IsCut cut.now.file options.now cut.now.test cut.now.blocks }
-    requires form { options.now.lean ≡ None }
-    ensures code { IfOk result (IsCoded (code_for cut.now.file options.now cut.now.blocks) cut.now.file options.now) }
-    ensures refused { IfErr result (λ e. (input : List ℕ) → IsReadAs input cut.now.file → IsCut cut.now.file options.now cut.now.test cut.now.blocks → HasCause input options.now e) }
-{
-    match woven_code(alloc, &cut.test, options, cut.blocks.as_slice()) {
-        Ok(code) => Ok(code),
-        Err(LinkError::TooLarge(size)) => Err(TransformError::TooLarge(Limit::CodeBytes, size)),
-        Err(LinkError::Memory) => Err(TransformError::Memory),
-    }
-}
-
-/// The lean form of the new code, with so many steps from check to check at most.
-fn lean_form(
-    alloc: Global,
-    cut: &CutTest,
-    options: &Options,
-    every: u64,
-) -> Result<WovenCode, TransformError>
-    requires cut { IsCut cut.now.file options.now cut.now.test cut.now.blocks }
-    requires form { options.now.lean ≡ Some every }
-    ensures code { IfOk result (IsCoded (code_for cut.now.file options.now cut.now.blocks) cut.now.file options.now) }
-    ensures refused { IfErr result (λ e. (input : List ℕ) → IsReadAs input cut.now.file → IsCut cut.now.file options.now cut.now.test cut.now.blocks → HasCause input options.now e) }
-{
-    match lean_code(alloc, &cut.test, options, every, cut.blocks.as_slice()) {
-        Ok(linked) => Ok(WovenCode { linked, far: false }),
-        Err(LinkError::TooLarge(size)) => Err(TransformError::TooLarge(Limit::LeanBytes, size)),
-        Err(LinkError::Memory) => Err(TransformError::Memory),
-    }
-}
-
-/// The new code in the form that is asked for.
-pub(crate) fn code_of(
-    alloc: Global,
-    cut: &CutTest,
-    options: &Options,
-) -> Result<WovenCode, TransformError>
-    requires { IsCut cut.now.file options.now cut.now.test cut.now.blocks }
-    ensures code { IfOk result (IsCoded (code_for cut.now.file options.now cut.now.blocks) cut.now.file options.now) }
-    ensures refused { IfErr result (λ e. (input : List ℕ) → IsReadAs input cut.now.file → IsCut cut.now.file options.now cut.now.test cut.now.blocks → HasCause input options.now e) }
-{
-    match options.lean {
-        None => compared_code(alloc, cut, options),
-        Some(every) => lean_form(alloc, cut, options, every),
-    }
 }
 
 /// What the bounds depend on.
@@ -106,45 +51,72 @@ fn shape_of(cut: &CutTest, options: &Options, far: bool) -> Shape
     }
 }
 
-/// The bounds with comparisons behind pieces. They fit 64 bits, since an admitted test has few data words.
-fn compared_bounds(cut: &CutTest, options: &Options, far: bool) -> Bounds
-    requires { IsCut cut.now.file options.now cut.now.test cut.now.blocks }
-    ensures { result ≡ bounds_of (shape_of_test cut.now.file options.now far) }
-{
-    match bounds(&shape_of(cut, options, far)) {
-        Some(bounds) => bounds,
-        None => unreachable!(),
-    }
+/// The new code of a test: its words and entries, whether they are far code, whether the output has a table, and the bounds.
+#[derive(Debug, Drop)]
+pub(crate) struct Coded {
+    pub linked: Linked,
+    pub far: bool,
+    pub table: bool,
+    pub bounds: Bounds,
 }
 
-/// The bounds of the lean form. They fit as well.
-fn bounds_of_lean(cut: &CutTest, options: &Options, every: u64) -> Bounds
+/// The new code with comparisons behind pieces. Its bounds fit 64 bits, since an admitted test has few data words.
+fn compared_code(alloc: Global, cut: &CutTest, options: &Options) -> Result<Coded, TransformError>
     requires cut { IsCut cut.now.file options.now cut.now.test cut.now.blocks }
-    requires few { every ≤ 2048 }
-    ensures { result ≡ lean_bounds_of cut.now.file options.now every }
+    requires form { options.now.lean ≡ None }
+    ensures code { IfOk result (IsCoded (code_for cut.now.file options.now cut.now.blocks) cut.now.file options.now) }
+    ensures refused { IfErr result (λ e. (input : List ℕ) → IsReadAs input cut.now.file → IsCut cut.now.file options.now cut.now.test cut.now.blocks → HasCause input options.now e) }
 {
-    match lean_bounds(&shape_of(cut, options, false), every) {
-        Some(bounds) => bounds,
-        None => unreachable!(),
+    match woven_code(alloc, &cut.test, options, cut.blocks.as_slice()) {
+        Ok(code) => Ok(Coded {
+            linked: code.linked,
+            far: code.far,
+            table: has_table(cut.blocks.as_slice()),
+            bounds: bounds(&shape_of(cut, options, code.far)).unwrap(),
+        }),
+        Err(LinkError::TooLarge(size)) => Err(TransformError::TooLarge(Limit::CodeBytes, size)),
+        Err(LinkError::Memory) => Err(TransformError::Memory),
     }
 }
 
-/// The bounds in the form that is asked for, where it is far code or not.
-fn bounds_in(cut: &CutTest, options: &Options, far: bool) -> Bounds
+/// The lean form of the new code, with at most `every` steps from check to check. Its bounds fit as well.
+fn lean_form(
+    alloc: Global,
+    cut: &CutTest,
+    options: &Options,
+    every: u64,
+) -> Result<Coded, TransformError>
+    requires cut { IsCut cut.now.file options.now cut.now.test cut.now.blocks }
+    requires form { options.now.lean ≡ Some every }
+    ensures code { IfOk result (IsCoded (code_for cut.now.file options.now cut.now.blocks) cut.now.file options.now) }
+    ensures refused { IfErr result (λ e. (input : List ℕ) → IsReadAs input cut.now.file → IsCut cut.now.file options.now cut.now.test cut.now.blocks → HasCause input options.now e) }
+{
+    match lean_code(alloc, &cut.test, options, every, cut.blocks.as_slice()) {
+        Ok(linked) => Ok(Coded {
+            linked,
+            far: false,
+            table: true,
+            bounds: lean_bounds(&shape_of(cut, options, false), every).unwrap(),
+        }),
+        Err(LinkError::TooLarge(size)) => Err(TransformError::TooLarge(Limit::LeanBytes, size)),
+        Err(LinkError::Memory) => Err(TransformError::Memory),
+    }
+}
+
+/// The new code in the form that is asked for.
+pub(crate) fn code_of(
+    alloc: Global,
+    cut: &CutTest,
+    options: &Options,
+) -> Result<Coded, TransformError>
     requires { IsCut cut.now.file options.now cut.now.test cut.now.blocks }
-    ensures { far ≡ (code_for cut.now.file options.now cut.now.blocks).far → result ≡ (code_for cut.now.file options.now cut.now.blocks).bounds }
+    ensures code { IfOk result (IsCoded (code_for cut.now.file options.now cut.now.blocks) cut.now.file options.now) }
+    ensures refused { IfErr result (λ e. (input : List ℕ) → IsReadAs input cut.now.file → IsCut cut.now.file options.now cut.now.test cut.now.blocks → HasCause input options.now e) }
 {
     match options.lean {
-        None => compared_bounds(cut, options, far),
-        Some(every) => bounds_of_lean(cut, options, every),
+        None => compared_code(alloc, cut, options),
+        Some(every) => lean_form(alloc, cut, options, every),
     }
-}
-
-/// Whether the output has a table.
-fn is_tabled(cut: &CutTest, options: &Options) -> bool
-    ensures { result ≡ (code_for cut.now.file options.now cut.now.blocks).table }
-{
-    options.lean.is_some() || has_table(cut.blocks.as_slice())
 }
 
 /// How many bytes a file without symbols has with symbols that take so many. None where those are 2^128 or more.
@@ -184,18 +156,16 @@ pub(crate) fn make(alloc: Global, cut: &CutTest, options: &Options) -> Result<Ma
 {
     let code = code_of(alloc, cut, options)?;
     let (blocks, entries) = (cut.blocks.as_slice(), code.linked.entries.as_slice());
-    let bounds = bounds_in(cut, options, code.far);
     let size = 4 * code.linked.words.len() as u64;
-    let table = is_tabled(cut, options);
     let bare = bare_file(
         alloc,
         &cut.file,
         &cut.test,
-        table,
+        code.table,
         entries,
         &code.linked.words,
     )?;
-    let plan = plan(alloc, &cut.test, blocks, entries, size, bounds)?;
+    let plan = plan(alloc, &cut.test, blocks, entries, size, code.bounds)?;
     let symbols = cut.file.symbols.as_slice();
     check_bare(&bare, symbols_size(symbols))?;
     let out = with_symbols(alloc, bare, entries, symbols)?;

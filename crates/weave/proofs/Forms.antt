@@ -13,7 +13,8 @@ use Rattle.qed_model.specs.Weave.Placed.{sum_of_sizes, rows_from, placed, Decode
 use Rattle.tests.specs.Admission.DataRanges.{range_of, ElfFile}
 use Rattle.tests.specs.Admission.Places.{image_of, half_of, code_place}
 use Rattle.qed_model.specs.Weave.Sequences.{Block, stub}
-use Rattle.qed_model.specs.Weave.Woven.{items_in, is_far_code, code_size, new_entries}
+use Rattle.qed_model.specs.Weave.Woven.{items_in, is_far_code, code_size, new_entries, compared}
+use Rattle.qed_model.specs.Weave.Parts.{parts, code_parts, role_rows}
 use Rattle.qed_model.proofs.Lemmas.{size-append}
 use Rattle.block_split.specs.declared.block.CodeBlock.{CodeBlock}
 use Rattle.block_split.specs.Listed.{block_of}
@@ -21,13 +22,14 @@ use Rattle.plc_rounds.specs.Spans.{spans_of}
 use Rattle.relinker.specs.declared.error.LinkError.{LinkError}
 use Rattle.relinker.specs.declared.error.LinkError.TheVariants as error
 use Rattle.weave.specs.declared.code.WovenCode.{WovenCode}
+use Rattle.weave.specs.declared.weaver.Weaver.{Weaver}
 use Rattle.relinker.specs.Counted.{capped}
 use Rattle.relinker.specs.Laid.{IsLinked, HasLinkCause}
 use Rattle.relinker.specs.Link.{is_encoded, most_bytes, IsWithinForm, LinksWithin}
 use Rattle.relinker.proofs.Joining.{parts_join}
 use Rattle.relinker.proofs.Linkable.{decoded, ascending}
-use Rattle.weave.specs.Form.{form_with, items_to_stub}
-use Rattle.weave.proofs.WholeCode.{items_are_whole}
+use Rattle.weave.specs.Form.{form, form_with, items_to_stub}
+use Rattle.weave.proofs.WholeCode.{items_are_whole, spans_are}
 use Rattle.weave_core.proofs.Lemmas.{are_rows, tests_have_words}
 use Rattle.weave.specs.Code.{items_of, code_begin, IsCut, IsCodeOf, HasCause}
 use Rattle.weave.proofs.CodeBytes.{few_bytes}
@@ -133,3 +135,10 @@ module _ (f : ElfFile) (o : Options) (t : Test) (blocks : List CodeBlock) (cut :
     true_false : true ≡ false → ⊥
     true_false h = cc
   cause false error.Memory e c = tt
+
+  -- ---- what a weaver of this form makes is for what the file says
+  pub roles_are :
+      (w : Weaver) (far : Bool) → form w ≡ form_with (spans_of t.span) o far → far ≡ is_far_code f o bs
+      → role_rows far (code_parts (parts (form w)) t.distance t.entry bs) ≡ role_rows far (compared f o bs).parts
+  roles_are w far same taken = λ i.
+      role_rows far (code_parts (parts ((same ∙ (λ j. form_with ((spans_are t.span ∙ cut.told.span) j) o (taken j))) i)) (cut.told.distance i) (cut.told.entry i) bs)

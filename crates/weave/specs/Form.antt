@@ -25,9 +25,9 @@ form w = record {
 }
 
 -- the new code up to the stub: what runs first, and the entries of the blocks
-abbrev pub parts_to_stub : Sequences → ℕ → ℕ → List Block → List Item
-parts_to_stub s d entry blocks = s.first d entry ++ entries_of s blocks
+abbrev pub code_to_stub : Sequences → ℕ → ℕ → List Block → List Item
+code_to_stub s d entry blocks = s.first d entry ++ entries_of s blocks
 
 -- that of a form
 abbrev pub items_to_stub : ℕ → ℕ → Form → List Block → List Item
-items_to_stub d entry form blocks = parts_to_stub (sequences form) d entry blocks
+items_to_stub d entry form blocks = code_to_stub (sequences form) d entry blocks

@@ -5,4 +5,6 @@ pub mod Admitted
 pub mod WholeCode
 pub mod Code
 pub mod Sizes
-pub mod Roles
+pub mod Handed
+pub mod Halves
+pub mod Leaves

@@ -4,21 +4,84 @@ ghost use Rattle.elf_types.specs.declared.file.ElfFile.{ElfFile};
 ghost use Rattle.block_split.specs.declared.block.CodeBlock.{CodeBlock};
 ghost use Rattle.block_split.specs.Listed.{block_of};
 ghost use Rattle.machine.specs.declared.limits.TheConstants.{CODE_ROOM};
-ghost use Rattle.qed_model.specs.Weave.Woven.{is_far_code};
+ghost use Rattle.qed_model.specs.Weave.Parts.{code_parts, role_rows};
+ghost use Rattle.qed_model.specs.Weave.Woven.{compared, is_far_code};
+ghost use Rattle.relinker.specs.Counted.{HasCounted};
 ghost use Rattle.relinker.specs.Laid.{IsLaid, IsLinked, HasLinkCause};
 ghost use Rattle.relinker.specs.Link.{IsWithinForm, LinksWithin};
 ghost use Rattle.weave.specs.Fits.{FitsBlock};
-ghost use Rattle.weave.specs.Form.{parts_to_stub};
+ghost use Rattle.weave.specs.Form.{code_to_stub};
 ghost use Rattle.weave.specs.Code.{items_of, handed_on, code_begin, IsCut, IsCodeOf, HasCause};
 
-use crate::count::counted;
+use crate::count::counted_by_blocks;
 use crate::size::code_size;
 use crate::{Weaver, Weaving, weave};
 use block_split::CodeBlock;
 use qed_model::limits::MAX_NEAR_CODE_BYTES;
-use qed_model::{Options, Test};
-use relinker::{Layout, LinkError, Linked, lay};
+use qed_model::{Options, RoleRow, Test};
+use relinker::{Count, Layout, LinkError, Linked, Roles, lay};
 use std::alloc::{AllocError, Global};
+
+/// Counts the items of new code, in the near or in the far form.
+///
+/// Errors: want of memory.
+pub fn counted<W: Weaving>(
+    alloc: Global,
+    weaver: &W,
+    far: bool,
+    test: &Test,
+    blocks: &[CodeBlock],
+) -> Result<Count, AllocError>
+    requires half { test.now.distance < 2 ^ 63 }
+    requires fit { All FitsBlock blocks.now }
+    requires own { All (W.is_for weaver.now) blocks.now }
+    ensures form { IfOk result (λ count. count.far ≡ far) }
+    ensures counted { IfOk result (λ count. HasCounted count (code_to_stub (W.code weaver.now) test.now.distance test.now.entry (map block_of blocks.now))) }
+{
+    let count = weave(alloc, weaver, test, blocks, Count::new(alloc, far))?;
+    Ok(count)
+}
+
+/// Writes the words of the items of a test, which are laid out.
+///
+/// Errors: want of memory.
+pub fn written<W: Weaving>(
+    alloc: Global,
+    weaver: &W,
+    layout: Layout,
+    test: &Test,
+    blocks: &[CodeBlock],
+) -> Result<Linked, AllocError>
+    requires half { test.now.distance < 2 ^ 63 }
+    requires fit { All FitsBlock blocks.now }
+    requires own { All (W.is_for weaver.now) blocks.now }
+    requires laid { IsLaid layout [] (code_to_stub (W.code weaver.now) test.now.distance test.now.entry (map block_of blocks.now)) }
+    ensures { IfOk result (IsLinked layout.far layout.base (code_to_stub (W.code weaver.now) test.now.distance test.now.entry (map block_of blocks.now))) }
+{
+    let layout = weave(alloc, weaver, test, blocks, layout)?;
+    Ok(layout.finish())
+}
+
+/// What the words of new code are for, in the near or in the far form: how many bytes have which role, as they stand one behind
+/// the other from the first word on.
+///
+/// Errors: want of memory.
+pub fn roles<W: Weaving>(
+    alloc: Global,
+    weaver: &W,
+    far: bool,
+    test: &Test,
+    blocks: &[CodeBlock],
+) -> Result<Vec<RoleRow>, AllocError>
+    requires half { test.now.distance < 2 ^ 63 }
+    requires fit { All FitsBlock blocks.now }
+    requires own { All (W.is_for weaver.now) blocks.now }
+    ensures { IfOk result (λ rows. rows.items ≡ role_rows far (code_parts (W.parts weaver.now) test.now.distance test.now.entry (map block_of blocks.now))) }
+{
+    let roles = weave(alloc, weaver, test, blocks, Roles::new(alloc, far))?;
+    let rows = roles.finish()?;
+    Ok(rows)
+}
 
 /// The passes of the code in one form.
 fn weaver(alloc: Global, test: &Test, options: &Options, far: bool) -> Result<Weaver, AllocError>
@@ -46,36 +109,8 @@ fn laid_out(
     ensures fits { IfOk result (λ _. IsWithinForm far (items_of test.now options.now far blocks.now)) }
     ensures cause { IfErr result (HasLinkCause far (items_of test.now options.now far blocks.now)) }
 {
-    let count = counted(alloc, test, options, far, blocks)?;
+    let count = counted_by_blocks(alloc, test, options, far, blocks)?;
     lay(alloc, count, test.base + 3 * test.distance)
-}
-
-/// Writes the words of the items of a test, which are laid out.
-///
-/// Errors: want of memory.
-pub fn written<W: Weaving>(
-    alloc: Global,
-    weaver: &W,
-    layout: Layout,
-    test: &Test,
-    blocks: &[CodeBlock],
-) -> Result<Linked, AllocError>
-    requires half { test.now.distance < 2 ^ 63 }
-    requires fit { All FitsBlock blocks.now }
-    requires own { All (W.is_for weaver.now) blocks.now }
-    requires laid { IsLaid layout [] (parts_to_stub (W.code weaver.now) test.now.distance test.now.entry (map block_of blocks.now)) }
-    ensures { IfOk result (IsLinked layout.far layout.base (parts_to_stub (W.code weaver.now) test.now.distance test.now.entry (map block_of blocks.now))) }
-{
-    let mut layout = layout;
-    weave(
-        alloc,
-        weaver,
-        test.distance,
-        test.entry,
-        blocks,
-        &mut layout,
-    )?;
-    Ok(layout.finish())
 }
 
 /// The new code of a test: its words and entries, and whether it has the far form.
@@ -110,7 +145,7 @@ fn code_in(
 }
 
 /// Whether the near form has more bytes than it may have.
-pub(crate) fn is_far(test: &Test, options: &Options, blocks: &[CodeBlock]) -> bool
+fn is_far(test: &Test, options: &Options, blocks: &[CodeBlock]) -> bool
     requires { (f : ElfFile) × IsCut f options.now test.now blocks.now }
     ensures { (f : ElfFile) → IsCut f options.now test.now blocks.now → is_far_code f options.now (map block_of blocks.now) ≡ result }
 {
@@ -133,4 +168,22 @@ pub fn woven_code(
 {
     let far = is_far(test, options, blocks);
     code_in(alloc, test, options, blocks, far)
+}
+
+/// What the words of the new code of an admitted test are for, where it is far code or not.
+///
+/// Errors: want of memory.
+pub fn code_roles(
+    alloc: Global,
+    test: &Test,
+    options: &Options,
+    blocks: &[CodeBlock],
+    far: bool,
+) -> Result<Vec<RoleRow>, AllocError>
+    requires { (f : ElfFile) × IsCut f options.now test.now blocks.now }
+    ensures { IfOk result (λ rows. (f : ElfFile) → IsCut f options.now test.now blocks.now → far ≡ is_far_code f options.now (map block_of blocks.now) → rows.items ≡ role_rows far (compared f options.now (map block_of blocks.now)).parts) }
+{
+    let weaver = Weaver::new(alloc, &test.span, options, far)?;
+    let rows = roles(alloc, &weaver, far, test, blocks)?;
+    Ok(rows)
 }

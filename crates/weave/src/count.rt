@@ -36,7 +36,7 @@ fn rows(
 }
 
 /// Counts the items of the new code in one form.
-pub(crate) fn counted(
+pub(crate) fn counted_by_blocks(
     alloc: Global,
     test: &Test,
     options: &Options,

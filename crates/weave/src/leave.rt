@@ -1,29 +1,63 @@
 //! How a block is left.
 ghost use Rattle.std.specs.Prelude.{◌≡◌, ◌++◌, OnOk};
 ghost use Rattle.rv_isa.specs.Kind.{class_of};
-ghost use Rattle.qed_model.specs.Weave.Sequences.{leave as leave_of, leave_as};
-ghost use Rattle.block_split.specs.Listed.{end_of};
+ghost use Rattle.qed_model.specs.Weave.Sequences.{before_end};
 ghost use Rattle.weave.specs.Fits.{FitsEnd, FitsLeave};
 ghost use Rattle.weave.specs.Form.{form};
+ghost use Rattle.weave.specs.Handed.{Comes, Handed};
+ghost use Rattle.weave.specs.Leaves.{before_parts, last_as, last_items, is_end as ends};
 
-use crate::Weaver;
+use crate::{PartSink, Weaver};
+use end_sweep::put_checks;
 use flow_tracking::Leave;
 use passes::{Emit, Pass};
+use qed_model::Role;
+use relinker::ItemSink;
 use rv_isa::{Class, Ins};
 use std::alloc::AllocError;
 
+/// Whether an end of a block is an ECALL.
+pub fn is_end(end: &Option<Ins>) -> bool
+    ensures { result ≡ ends end.now }
+{
+    match end {
+        Some(ins) => ins.class() == Class::End,
+        None => false,
+    }
+}
+
 impl Weaver {
+    /// Appends what the sweep compares, if it is asked for.
+    fn put_swept(&self, out: &mut Emit) -> Result<(), AllocError>
+        ensures { OnOk result (out.new ≡ out.old ++ before_end (form self.now)) }
+    {
+        if let Some(sweep) = &self.sweep {
+            put_checks(sweep.span.as_slice(), out)?;
+        }
+        Ok(())
+    }
+
+    /// Hands on what stands before the end of a block that is an ECALL.
+    pub(crate) fn before_end<S: ItemSink>(
+        &self,
+        end: &Option<Ins>,
+        to: &mut PartSink<S>,
+    ) -> Result<(), AllocError>
+        requires { Comes (S.took to.old.sink) to.old.items (before_parts (form self.now) end.now) }
+        ensures { OnOk result (Handed (S.took to.old.sink) (S.took to.new.sink) to.new.items (before_parts (form self.now) end.now)) }
+    {
+        if is_end(end) {
+            self.put_swept(&mut to.items)?;
+            to.end(Role::Sweep)?;
+        }
+        Ok(())
+    }
+
     /// Appends the leave of an instruction that ends a block.
     fn stop(&self, ins: &Ins, at: u64, out: &mut Emit) -> Result<(), AllocError>
         requires { FitsLeave (class_of ins.now.kind) ins.now }
-        ensures { OnOk result (out.new ≡ out.old ++ leave_as (form self.now) (class_of ins.now.kind) ins.now at) }
+        ensures { OnOk result (out.new ≡ out.old ++ last_as (form self.now) (class_of ins.now.kind) ins.now at) }
     {
-        if ins.class() == Class::End {
-            if let Some(sweep) = &self.sweep {
-                sweep.emit(ins, at, out)?;
-                return Ok(());
-            }
-        }
         let leave = Leave {
             next: at.wrapping_add(4),
             far: self.far,
@@ -32,7 +66,8 @@ impl Weaver {
         Ok(())
     }
 
-    /// Appends the leave of a block whose end stands at an input address, or which falls to that address.
+    /// Appends the leave of a block whose end stands at an input address, or which falls to that address, without what stands
+    /// before an ECALL.
     pub(crate) fn leave_at(
         &self,
         end: &Option<Ins>,
@@ -40,7 +75,7 @@ impl Weaver {
         out: &mut Emit,
     ) -> Result<(), AllocError>
         requires { FitsEnd end.now }
-        ensures { OnOk result (out.new ≡ out.old ++ leave_of (form self.now) (end_of end.now) at) }
+        ensures { OnOk result (out.new ≡ out.old ++ last_items (form self.now) end.now at) }
     {
         match end {
             None => self.go_on(at, out)?,

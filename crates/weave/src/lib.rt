@@ -1,5 +1,5 @@
 //! The new code of a test, part by part: the prologue, and of each block its entry, its pieces and its leave, each made by the
-//! passes and handed on before the next. Its bytes and marks are counted by its blocks, and then its words are written.
+//! passes and handed on, with what it is for, before the next. Its bytes and marks are counted by its blocks, and then its words are written.
 #![tactic(auto)]
 
 ghost use Rattle.weave.specs.Admitted.{BlocksFit};
@@ -7,22 +7,24 @@ ghost use Rattle.weave.specs.WholeCode.{ItemsAreWhole};
 
 mod code;
 mod count;
+mod each;
 mod leave;
 mod make;
+mod part;
 mod pieces;
 mod prologue;
-mod roles;
 mod size;
 mod walk;
 mod weaver;
 mod weaving;
 
-pub use code::{WovenCode, woven_code, written};
+pub use code::{WovenCode, code_roles, counted, roles, woven_code, written};
+pub use each::{Half, weave_each};
+pub use leave::is_end;
 pub use make::copied;
+pub use part::PartSink;
 pub use pieces::{Piece, piece, woven_piece};
 pub use prologue::put_zeros;
-pub use roles::{Compared, code_roles, compare_rows, guard_rows, push_end, push_pieces, row};
-pub use size::{Sizes, guard_size, links_size, sizes_of};
 pub use walk::weave;
 pub use weaver::Weaver;
 pub use weaving::Weaving;

@@ -13,7 +13,7 @@ use qed_model::{Options, Range, Test};
 use rv_isa::{Class, Ins, Kind, Reg};
 
 /// The bytes of the comparison of a register with its pair.
-pub fn guard_size(r: Reg) -> u64
+fn guard_size(r: Reg) -> u64
     ensures value { result ≡ guard_bytes r }
     ensures bound { result ≤ 8 }
 {
@@ -97,7 +97,7 @@ fn diverse_size(ins: &Ins) -> u64
 
 /// The bytes of the mirror part of an instruction.
 #[inline(always)]
-pub(crate) fn mirror_size(ins: &Ins, diverse: bool) -> u64
+fn mirror_size(ins: &Ins, diverse: bool) -> u64
     ensures value { result ≡ mirror_bytes diverse ins.now }
     ensures bound { result ≤ 28 }
 {
@@ -121,15 +121,15 @@ fn body_size(body: &[Ins], diverse: bool) -> u64
 
 /// What the sizes of blocks depend on besides the blocks.
 #[derive(Clone, Copy)]
-pub struct Sizes {
+pub(crate) struct Sizes {
     /// Whether mirror parts are of other kinds.
-    pub diverse: bool,
+    pub(crate) diverse: bool,
     /// The bytes of a jump to an entry.
-    pub go: u64,
+    pub(crate) go: u64,
     /// Those of the comparison and the visits behind the parts of a piece.
-    pub piece: u64,
+    pub(crate) piece: u64,
     /// Those of what stands before an ECALL.
-    pub end: u64,
+    pub(crate) end: u64,
 }
 
 /// The bytes of a visited data word.
@@ -157,7 +157,7 @@ fn end_size(span: &[Range], sweep: bool) -> u64
 }
 
 /// What the sizes of the blocks of a test depend on.
-pub fn sizes_of(test: &Test, options: &Options, far: bool) -> Sizes
+pub(crate) fn sizes_of(test: &Test, options: &Options, far: bool) -> Sizes
     requires visits { options.now.round ≤ 1024 }
     requires ranges { length test.now.span ≤ 67_108_864 }
     ensures { AreSizes result options.now far test.now.span }
@@ -172,7 +172,7 @@ pub fn sizes_of(test: &Test, options: &Options, far: bool) -> Sizes
 }
 
 /// The bytes of the return address of a jump, in rd and in its pair.
-pub fn links_size(ins: &Ins) -> u64
+fn links_size(ins: &Ins) -> u64
     ensures value { result ≡ links_bytes ins.now }
     ensures bound { result ≤ 16 }
 {

@@ -3,11 +3,14 @@ ghost use Rattle.std.specs.Prelude.{◌≡◌};
 ghost use Rattle.std.specs.Option.{ForSome};
 ghost use Rattle.plc_rounds.specs.Spans.{spans_of};
 
-use crate::{Piece, Weaving};
+use crate::each::{last_of, weave_each};
+use crate::{Half, PartSink, Piece, Weaving};
 use block_split::CodeBlock;
 use end_sweep::Sweep;
 use flow_tracking::Entry;
-use passes::{Emit, Pass, PassAll};
+use passes::{Pass, PassAll};
+use qed_model::Role;
+use relinker::ItemSink;
 use rv_isa::Ins;
 use std::alloc::AllocError;
 
@@ -22,27 +25,61 @@ pub struct Weaver {
 
 impl Weaving for Weaver {
     ghost use Rattle.qed_model.specs.Weave.Code.{sequences};
+    ghost use Rattle.qed_model.specs.Weave.Parts.{parts};
+    ghost use Rattle.qed_model.proofs.Lemmas.{parts_are};
     ghost use Rattle.weave.specs.Form.{form};
 
     ghost code = { λ w. sequences (form w) };
 
+    ghost parts = { λ w. parts (form w) };
+
     ghost is_for = { λ w b. Unit {0} };
 
-    fn first(&self, distance: u64, entry: u64, out: &mut Emit) -> Result<(), AllocError> {
-        self.prologue(distance, entry, out)
-    }
-
-    fn enter(&self, block: &CodeBlock, out: &mut Emit) -> Result<(), AllocError> {
-        Entry.emit(&Ins::nop(), block.start, out)
-    }
-
-    fn piece(&self, list: &[Ins], at: u64, out: &mut Emit) -> Result<(), AllocError> {
-        self.pieces.emit_all(list, at, out)?;
+    fn first<S: ItemSink>(
+        &self,
+        distance: u64,
+        entry: u64,
+        to: &mut PartSink<S>,
+    ) -> Result<(), AllocError> {
+        self.prologue(distance, entry, &mut to.items)?;
+        to.end(Role::Start)?;
         Ok(())
     }
 
-    fn leave(&self, block: &CodeBlock, out: &mut Emit) -> Result<(), AllocError> {
-        let at = block.start + 4 * block.body.as_slice().len() as u64;
-        self.leave_at(&block.end, at, out)
+    fn enter<S: ItemSink>(
+        &self,
+        block: &CodeBlock,
+        to: &mut PartSink<S>,
+    ) -> Result<(), AllocError> {
+        Entry.emit(&Ins::nop(), block.start, &mut to.items)?;
+        to.end(Role::Entry(block.start))?;
+        Ok(())
     }
+
+    fn piece<S: ItemSink>(
+        &self,
+        list: &[Ins],
+        at: u64,
+        to: &mut PartSink<S>,
+    ) -> Result<(), AllocError> {
+        weave_each(&self.pieces.first.pass, Half::Original, list, at, to)?;
+        weave_each(&self.pieces.second.first.pass, Half::Mirror, list, at, to)?;
+        self.pieces.second.second.emit_all(list, at, &mut to.items)?;
+        to.end(Role::Visit(at, last_of(list, at)))?;
+        Ok(())
+    }
+
+    fn leave<S: ItemSink>(
+        &self,
+        block: &CodeBlock,
+        to: &mut PartSink<S>,
+    ) -> Result<(), AllocError> {
+        let at = block.start + 4 * block.body.as_slice().len() as u64;
+        self.before_end(&block.end, to)?;
+        self.leave_at(&block.end, at, &mut to.items)?;
+        to.end(Role::Leave(at))?;
+        Ok(())
+    }
+
+    ghost whole = { λ w. parts_are (form w) };
 }

@@ -1,48 +1,71 @@
 //! What makes the parts of new code.
-ghost use Rattle.std.specs.Prelude.{◌≡◌, ◌+◌, ◌*◌, ◌^◌, ◌<◌, ◌∷◌, ◌++◌, OnOk, length};
-ghost use Rattle.qed_model.specs.declared.item.Item.TheVariants.{Mark};
+ghost use Rattle.std.specs.Prelude.{◌≡◌, ◌+◌, ◌*◌, ◌^◌, ◌<◌, OnOk, length};
 ghost use Rattle.weave_core.specs.Blocks.{AllFit};
 ghost use Rattle.block_split.specs.Listed.{end_of};
 ghost use Rattle.weave.specs.Fits.{FitsBlock};
+ghost use Rattle.weave.specs.Handed.{Comes, Handed};
 
+use crate::PartSink;
 use block_split::CodeBlock;
-use passes::Emit;
+use relinker::ItemSink;
 use rv_isa::Ins;
 use std::alloc::AllocError;
 
-/// Makes the parts of new code, each of which is appended to items.
+/// Makes the parts of new code, and hands each on with what it is for.
 ///
-/// Errors: want of memory. What is appended then is not told.
+/// Errors: want of memory. What was handed on then is not told.
 pub trait Weaving {
+    ghost use Rattle.std.specs.Prelude.{Bool};
     ghost use Rattle.qed_model.specs.Weave.Code.{Sequences};
+    ghost use Rattle.qed_model.specs.Weave.Parts.{Parts, ArePartsOf};
     ghost use Rattle.block_split.specs.declared.block.CodeBlock.{CodeBlock};
 
-    // The sequences that its parts are.
+    // The sequences that it makes.
     ghost code: { Self → Sequences };
+
+    // Their parts.
+    ghost parts: { Self → Parts };
 
     // The blocks that it is for, of those that fit.
     ghost is_for: { Self → CodeBlock → Type 0 };
 
-    /// Appends what runs first, with the distance of the halves in bytes and the input address of the test's entry.
-    fn first(&self, distance: u64, entry: u64, out: &mut Emit) -> Result<(), AllocError>
-        requires { distance < 2 ^ 63 }
-        ensures { OnOk result (out.new ≡ out.old ++ (code self.now).first distance entry) };
+    /// Hands on what runs first, with the distance of the halves in bytes and the input address of the test's entry.
+    fn first<S: ItemSink>(
+        &self,
+        distance: u64,
+        entry: u64,
+        to: &mut PartSink<S>,
+    ) -> Result<(), AllocError>
+        requires half { distance < 2 ^ 63 }
+        requires come { Comes (S.took to.old.sink) to.old.items ((parts self.now).first distance entry) }
+        ensures { OnOk result (Handed (S.took to.old.sink) (S.took to.new.sink) to.new.items ((parts self.now).first distance entry)) };
 
-    /// Appends the mark of a block and what begins its entry.
-    fn enter(&self, block: &CodeBlock, out: &mut Emit) -> Result<(), AllocError>
+    /// Hands on the mark of a block and what begins its entry.
+    fn enter<S: ItemSink>(&self, block: &CodeBlock, to: &mut PartSink<S>) -> Result<(), AllocError>
         requires fits { FitsBlock block.now }
         requires own { is_for self.now block.now }
-        ensures { OnOk result (out.new ≡ out.old ++ Mark block.now.start ∷ (code self.now).enter block.now.start) };
+        requires come { Comes (S.took to.old.sink) to.old.items ((parts self.now).enter block.now.start) }
+        ensures { OnOk result (Handed (S.took to.old.sink) (S.took to.new.sink) to.new.items ((parts self.now).enter block.now.start)) };
 
-    /// Appends a piece whose first instruction stands at an input address.
-    fn piece(&self, list: &[Ins], at: u64, out: &mut Emit) -> Result<(), AllocError>
+    /// Hands on a piece whose first instruction stands at an input address.
+    fn piece<S: ItemSink>(
+        &self,
+        list: &[Ins],
+        at: u64,
+        to: &mut PartSink<S>,
+    ) -> Result<(), AllocError>
         requires fits { AllFit list.now }
         requires low { at + 4 * length list.now < 2 ^ 64 }
-        ensures { OnOk result (out.new ≡ out.old ++ (code self.now).piece list.now at) };
+        requires come { Comes (S.took to.old.sink) to.old.items ((parts self.now).piece list.now at) }
+        ensures { OnOk result (Handed (S.took to.old.sink) (S.took to.new.sink) to.new.items ((parts self.now).piece list.now at)) };
 
-    /// Appends the leave of a block.
-    fn leave(&self, block: &CodeBlock, out: &mut Emit) -> Result<(), AllocError>
+    /// Hands on the leave of a block.
+    fn leave<S: ItemSink>(&self, block: &CodeBlock, to: &mut PartSink<S>) -> Result<(), AllocError>
         requires fits { FitsBlock block.now }
         requires own { is_for self.now block.now }
-        ensures { OnOk result (out.new ≡ out.old ++ (code self.now).leave (end_of block.now.end) (block.now.start + 4 * length block.now.body)) };
+        requires come { Comes (S.took to.old.sink) to.old.items ((parts self.now).leave (end_of block.now.end) (block.now.start + 4 * length block.now.body)) }
+        ensures { OnOk result (Handed (S.took to.old.sink) (S.took to.new.sink) to.new.items ((parts self.now).leave (end_of block.now.end) (block.now.start + 4 * length block.now.body))) };
+
+    // Each item of the sequences is in one part.
+    ghost whole: { (w : Self) → ArePartsOf (code w) (parts w) };
 }

@@ -9,6 +9,8 @@ use Rattle.machine.specs.Limits.{limit_of}
 use Rattle.qed_model.specs.declared.bounds.Bounds.{Bounds}
 use Rattle.qed_model.specs.declared.plan.EntryRow.{EntryRow}
 use Rattle.qed_model.specs.declared.plan.Plan.{Plan}
+use Rattle.qed_model.specs.declared.role.Role.{Role}
+use Rattle.qed_model.specs.declared.role.RoleRow.{RoleRow}
 use Rattle.machine.specs.Numbers.{bytes_of}
 use Rattle.qed_model.specs.Weave.Sequences.{Item, Block}
 use Rattle.qed_model.specs.Weave.Code.{sequences, code_of}
@@ -22,6 +24,8 @@ use Rattle.qed_model.specs.Weave.OutputFile.{has_table, file_of, piece_rows}
 use Rattle.qed_model.specs.Weave.Bounds.{bounds_of}
 use Rattle.qed_model.specs.Weave.LeanBounds.{lean_bounds}
 use Rattle.qed_model.specs.Weave.LeanCode.{lean_items}
+use Rattle.qed_model.specs.Weave.Parts.{joined, parts, code_parts, role_rows}
+use Rattle.qed_model.specs.Weave.LeanParts.{lean_parts}
 
 -- ---- with a comparison behind each piece
 -- its items
@@ -44,10 +48,11 @@ abbrev pub new_entries : ElfFile → Options → List Block → List EntryRow
 new_entries f o blocks = rows_from (is_far_code f o blocks) (code_place o.half (image_of f)) (new_items f o blocks)
 
 -- ---- the new code in some form
--- whether it is far code, its items, whether the output has a table, the limit on its bytes, and the bounds of the output
+-- whether it is far code, its items, what they are for, whether the output has a table, the limit on its bytes, and the bounds of the output
 pub record NewCode : Type 0 where
   pub far : Bool
   pub items : List Item
+  pub parts : List (Role × List Item)
   pub table : Bool
   pub limit : Limit
   pub bounds : Bounds
@@ -57,6 +62,7 @@ abbrev pub compared : ElfFile → Options → List Block → NewCode
 compared f o blocks = record {
   far = is_far_code f o blocks;
   items = new_items f o blocks;
+  parts = code_parts (parts (form_of f o (is_far_code f o blocks))) (half_of o.half (image_of f)) f.entry blocks;
   table = has_table blocks;
   limit = limit.CodeBytes;
   bounds = bounds_of (shape_of f o (is_far_code f o blocks));
@@ -64,7 +70,7 @@ compared f o blocks = record {
 
 -- with one check for all of the code, which has no more bytes than a JAL spans, and a table
 abbrev pub lean : ElfFile → Options → ℕ → List Block → NewCode
-lean f o every blocks = record { far = false; items = lean_items f o every blocks; table = true; limit = limit.LeanBytes; bounds = lean_bounds f o every }
+lean f o every blocks = record { far = false; items = lean_items f o every blocks; parts = lean_parts f o every blocks; table = true; limit = limit.LeanBytes; bounds = lean_bounds f o every }
 
 -- the one that is asked for
 abbrev pub code_as : Option ℕ → ElfFile → Options → List Block → NewCode
@@ -78,6 +84,14 @@ landing (Some every) land = cond land (Some 6) None
 
 abbrev pub new_code : ElfFile → Options → List Block → NewCode
 new_code f o blocks = code_as o.lean f o blocks
+
+-- no item is left out, and none has two roles
+abbrev pub RolesCover : Type 0
+RolesCover = (form : Option ℕ) (f : ElfFile) (o : Options) (blocks : List Block) → joined (code_as form f o blocks).parts ≡ (code_as form f o blocks).items
+
+-- its bytes with their roles, from its first word on
+abbrev pub new_roles : ElfFile → Options → List Block → List RoleRow
+new_roles f o blocks = role_rows (new_code f o blocks).far (new_code f o blocks).parts
 
 -- how many bytes it has
 abbrev pub size_of_code : NewCode → ℕ

@@ -1,6 +1,6 @@
 use Rattle.std.proofs.Common.{rules, ◌∙◌, map}
 use Rattle.block_split.specs.Listed.{block_of}
-use Rattle.weave.specs.Form.{parts_to_stub}
+use Rattle.weave.specs.Form.{code_to_stub}
 use Rattle.elf_types.specs.declared.file.ElfFile.{ElfFile}
 use Rattle.lean.specs.Code.{IsLeanCut, HasCause}
 use Rattle.lean.specs.Form.{code_of}
@@ -18,7 +18,7 @@ pub counted-requires-clause-own : goal.counted-requires-clause-own
 counted-requires-clause-own c = owned c.requires.0 c.args.options.now c.args.every c.args.blocks.now c.requires.1.cut c.in_ok-weaver.weaver c.in_ok-weaver.ensures.blocks (fit c.requires.0 c.args.options.now c.args.every c.args.test.now c.args.blocks.now c.requires.1)
 
 pub lay-requires-clause-counted : goal.lay-requires-clause-counted
-lay-requires-clause-counted c = (parts_to_stub (code_of c.in_ok-weaver.weaver) c.args.test.now.distance c.args.test.now.entry (map block_of c.args.blocks.now), c.in_ok-count.ensures.counted)
+lay-requires-clause-counted c = (code_to_stub (code_of c.in_ok-weaver.weaver) c.args.test.now.distance c.args.test.now.entry (map block_of c.args.blocks.now), c.in_ok-count.ensures.counted)
 
 -- the entries are known
 pub place-requires-clause-rows : goal.place-requires-clause-rows

@@ -15,8 +15,8 @@ returns-clause-made c =
     let code = c.in_ok-code.code in
     let rows = c.as_slice-entries.result.now in
     made_of c.args.cut.now.file c.args.options.now c.args.cut.now.test c.args.cut.now.blocks c.requires.cut code c.in_ok-code.ensures.code
-    c.as_slice-blocks.result.now rows c.deref.result.now (4 * c.len.result) c.bounds_in-bounds.result c.is_tabled-table.result c.in_ok-out.out c.in_ok-plan.plan
-    c.as_slice-blocks.ensures c.as_slice-entries.ensures.value c.deref.ensures.value (ap (λ n. 4 * n) (c.len.ensures ∙ code.linked.words.ok.0)) (c.bounds_in-bounds.ensures c.in_ok-code.ensures.code.far) c.is_tabled-table.ensures
+    c.as_slice-blocks.result.now rows c.deref.result.now (4 * c.len.result) c.in_ok-out.out c.in_ok-plan.plan
+    c.as_slice-blocks.ensures c.as_slice-entries.ensures.value c.deref.ensures.value (ap (λ n. 4 * n) (c.len.ensures ∙ code.linked.words.ok.0))
     c.requires.fit c.requires.apart
     (λ o e. c.in_ok-out.ensures e.entries.ascend ∙ (λ i. record (c.in_ok-bare.ensures o e i) { symbols = out_symbols rows (c.as_slice-symbols.ensures i) }))
     c.in_ok-plan.ensures
@@ -37,8 +37,8 @@ returns-in_err-check_bare-clause-refused c =
     if_err c.from_residual-in_err-check_bare.result e P c.from_residual-in_err-check_bare.ensures.1
     (λ input read cut.
     let made = made_of f o t blocks cut code c.in_ok-code.ensures.code
-    c.as_slice-blocks.result.now rows c.deref.result.now (4 * c.len.result) c.bounds_in-bounds.result c.is_tabled-table.result out c.in_ok-plan.plan
-    c.as_slice-blocks.ensures c.as_slice-entries.ensures.value c.deref.ensures.value (ap (λ n. 4 * n) (c.len.ensures ∙ code.linked.words.ok.0)) (c.bounds_in-bounds.ensures c.in_ok-code.ensures.code.far) c.is_tabled-table.ensures
+    c.as_slice-blocks.result.now rows c.deref.result.now (4 * c.len.result) out c.in_ok-plan.plan
+    c.as_slice-blocks.ensures c.as_slice-entries.ensures.value c.deref.ensures.value (ap (λ n. 4 * n) (c.len.ensures ∙ code.linked.words.ok.0))
     c.requires.fit c.requires.apart (λ o e i. record (c.in_ok-bare.ensures o e i) { symbols = symbols }) c.in_ok-plan.ensures in
-    let none = no_symbols f o t blocks cut code c.in_ok-code.ensures.code rows c.is_tabled-table.result c.deref.result.now c.in_ok-bare.bare c.as_slice-entries.ensures.value c.requires.fit c.requires.apart c.in_ok-bare.ensures in
+    let none = no_symbols f o t blocks cut code c.in_ok-code.ensures.code rows c.deref.result.now c.in_ok-bare.bare c.as_slice-entries.ensures.value c.requires.fit c.requires.apart c.in_ok-bare.ensures in
     exceeded input f o blocks out c.in_ok-plan.plan read made e (c.in_err-check_bare.ensures symbols none room))

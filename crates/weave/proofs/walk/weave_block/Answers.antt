@@ -1,23 +1,41 @@
-use Rattle.weave.proofs.Taking.{comes_part, takes_part}
-use Rattle.weave.proofs.BlockEntries.{enter_comes, pieces_come, leave_comes, takes_entry}
+use Rattle.std.proofs.Common.{◌+◌, ◌*◌, length, [], sym, subst}
+use Rattle.qed_model.specs.Weave.Parts.{pieces_parts}
+use Rattle.qed_model.specs.Weave.Pieces.{divided}
+use Rattle.block_split.specs.Listed.{end_of}
+use Rattle.weave.specs.Handed.{Comes, Handed}
+use Rattle.weave.proofs.Taking.{begun, comes, on, ended, last}
+use Rattle.weave.proofs.Parts.{block_is}
 use Rattle.weave.proofs.walk.weave_block.Goals as goal
 
-pub take-requires : goal.take-requires
-take-requires g c = comes_part (g.S.ItemSink.took c.args.sink.now) _ _ _ c.clear.ensures c.in_ok-enter.ensures (enter_comes (g.W.Weaving.code c.args.weaver.now) c.args.block.now (g.S.ItemSink.took c.args.sink.now) c.requires.fits c.requires.come)
+pub enter-requires-clause-come : goal.enter-requires-clause-come
+enter-requires-clause-come g c =
+    let p = g.W.Weaving.parts c.args.weaver.now in
+    let b = c.args.block.now in
+    comes (p.enter b.start) _ (begun (g.S.ItemSink.took c.args.to.now.sink) _ _ (subst (Comes (g.S.ItemSink.took c.args.to.now.sink) c.args.to.now.items) (block_is p b c.requires.fits) c.requires.come))
 
 pub weave_pieces-requires-clause-come : goal.weave_pieces-requires-clause-come
 weave_pieces-requires-clause-come g c =
-    pieces_come (g.W.Weaving.code c.args.weaver.now) c.args.block.now (g.S.ItemSink.took c.args.sink.now) (g.S.ItemSink.took c.take.new.self) c.requires.fits c.requires.come
-    (takes_part (g.S.ItemSink.took c.args.sink.now) (g.S.ItemSink.took c.take.new.self) _ _ _ c.clear.ensures c.in_ok-enter.ensures c.in_ok-take.ensures)
+    let p = g.W.Weaving.parts c.args.weaver.now in
+    let b = c.args.block.now in
+    comes (pieces_parts p (divided b.lengths b.body) b.start) _
+    (on (p.enter b.start) _ (begun (g.S.ItemSink.took c.args.to.now.sink) _ _ (subst (Comes (g.S.ItemSink.took c.args.to.now.sink) c.args.to.now.items) (block_is p b c.requires.fits) c.requires.come)) c.in_ok-enter.ensures)
 
-pub take-requires-2 : goal.take-requires-2
-take-requires-2 g c =
-    comes_part (g.S.ItemSink.took c.weave_pieces.new.sink) _ _ _ c.clear-2.ensures c.in_ok-leave.ensures
-    (leave_comes (g.W.Weaving.code c.args.weaver.now) c.args.block.now (g.S.ItemSink.took c.args.sink.now) (g.S.ItemSink.took c.take.new.self) (g.S.ItemSink.took c.weave_pieces.new.sink) c.requires.fits c.requires.come
-    (takes_part (g.S.ItemSink.took c.args.sink.now) (g.S.ItemSink.took c.take.new.self) _ _ _ c.clear.ensures c.in_ok-enter.ensures c.in_ok-take.ensures) c.in_ok-weave_pieces.ensures)
+pub leave-requires-clause-come : goal.leave-requires-clause-come
+leave-requires-clause-come g c =
+    let p = g.W.Weaving.parts c.args.weaver.now in
+    let b = c.args.block.now in
+    let left = p.leave (end_of b.end) (b.start + 4 * length b.body) in
+    comes left []
+    (last left (on (pieces_parts p (divided b.lengths b.body) b.start) left
+    (on (p.enter b.start) _ (begun (g.S.ItemSink.took c.args.to.now.sink) _ _ (subst (Comes (g.S.ItemSink.took c.args.to.now.sink) c.args.to.now.items) (block_is p b c.requires.fits) c.requires.come)) c.in_ok-enter.ensures)
+    c.in_ok-weave_pieces.ensures))
 
 pub returns : goal.returns
 returns g c =
-    takes_entry (g.W.Weaving.code c.args.weaver.now) c.args.block.now (g.S.ItemSink.took c.args.sink.now) (g.S.ItemSink.took c.take.new.self) (g.S.ItemSink.took c.weave_pieces.new.sink) (g.S.ItemSink.took c.take-2.new.self) c.requires.fits
-    (takes_part (g.S.ItemSink.took c.args.sink.now) (g.S.ItemSink.took c.take.new.self) _ _ _ c.clear.ensures c.in_ok-enter.ensures c.in_ok-take.ensures)
-    c.in_ok-weave_pieces.ensures (takes_part (g.S.ItemSink.took c.weave_pieces.new.sink) (g.S.ItemSink.took c.take-2.new.self) _ _ _ c.clear-2.ensures c.in_ok-leave.ensures c.in_ok-take-2.ensures)
+    let p = g.W.Weaving.parts c.args.weaver.now in
+    let b = c.args.block.now in
+    let left = p.leave (end_of b.end) (b.start + 4 * length b.body) in
+    subst (Handed (g.S.ItemSink.took c.args.to.now.sink) (g.S.ItemSink.took c.leave.new.to.sink) c.leave.new.to.items) (sym (block_is p b c.requires.fits))
+    (ended _ _ _ _ (on left [] (last left (on (pieces_parts p (divided b.lengths b.body) b.start) left
+    (on (p.enter b.start) _ (begun (g.S.ItemSink.took c.args.to.now.sink) _ _ (subst (Comes (g.S.ItemSink.took c.args.to.now.sink) c.args.to.now.items) (block_is p b c.requires.fits) c.requires.come)) c.in_ok-enter.ensures)
+    c.in_ok-weave_pieces.ensures)) c.in_ok-leave.ensures))

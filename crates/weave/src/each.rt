@@ -1,0 +1,67 @@
+//! The instructions of a piece, one after the other.
+ghost use Rattle.std.specs.Prelude.{◌≡◌, ◌+◌, ◌*◌, ◌^◌, ◌<◌, ℕ, OnOk, length};
+ghost use Rattle.rv_isa.specs.declared.ins.Ins.{Ins};
+ghost use Rattle.qed_model.specs.Weave.Parts.{each_parts, last_of as last_of_list};
+ghost use Rattle.weave_core.specs.Blocks.{AllFit, FitsPiece};
+ghost use Rattle.weave.specs.Handed.{Comes, Handed};
+ghost use Rattle.weave.specs.Halves.{half_role};
+
+use crate::PartSink;
+use passes::Pass;
+use qed_model::Role;
+use relinker::ItemSink;
+use rv_isa::Ins;
+use std::alloc::AllocError;
+
+/// The half on which an instruction of a piece runs.
+#[derive(Clone, Copy)]
+pub enum Half {
+    Original,
+    Mirror,
+}
+
+impl Half {
+    /// What the items of the instruction at an address are for.
+    fn role(self, at: u64) -> Role
+        ensures { result ≡ half_role self at }
+    {
+        match self {
+            Half::Original => Role::Original(at),
+            Half::Mirror => Role::Mirror(at),
+        }
+    }
+}
+
+/// Hands on what a pass emits for each instruction of a list, a part each. The first instruction stands at an input address.
+///
+/// Errors: want of memory.
+#[tactic(auto, using(crate::proofs::Taking::begun, crate::proofs::Taking::ended))]
+pub fn weave_each<P: Pass, S: ItemSink>(
+    pass: &P,
+    half: Half,
+    list: &[Ins],
+    first: u64,
+    to: &mut PartSink<S>,
+) -> Result<(), AllocError>
+    requires own { (i : Ins) (at : ℕ) → FitsPiece i → P.is_for pass.now i at }
+    requires fits { AllFit list.now }
+    requires low { first + 4 * length list.now < 2 ^ 64 }
+    requires come { Comes (S.took to.old.sink) to.old.items (each_parts (half_role half) (P.items pass.now) list.now first) }
+    ensures { OnOk result (Handed (S.took to.old.sink) (S.took to.new.sink) to.new.items (each_parts (half_role half) (P.items pass.now) list.now first)) }
+{
+    let mut at = first;
+    for ins in list {
+        pass.emit(ins, at, &mut to.items)?;
+        to.end(half.role(at))?;
+        at += 4;
+    }
+    Ok(())
+}
+
+/// The address of the last instruction of a list. The first instruction stands at `at`.
+pub(crate) fn last_of(list: &[Ins], at: u64) -> u64
+    requires { at + 4 * length list.now < 2 ^ 64 }
+    ensures { result ≡ last_of_list list.now at }
+{
+    at + 4 * (list.len() as u64).saturating_sub(1)
+}
