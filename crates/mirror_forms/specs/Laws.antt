@@ -6,7 +6,8 @@ use Rattle.qed_model.specs.declared.steps.TheConstants.{DIVERSE_STEPS}
 use Rattle.rv_isa.specs.declared.class.Class.TheVariants as class
 use Rattle.qed_model.specs.declared.item.Item.TheVariants.{Plain}
 use Rattle.machine.specs.Step.{Ins, step}
-use Rattle.qed_model.specs.Weave.Diverse.{Part, part_word, part_items, parts_of, diverse_as, diverse}
+use Rattle.qed_model.specs.declared.diverse.Part.{Part}
+use Rattle.qed_model.specs.Weave.Diverse.{part_word, part_items, parts_of, diverse_as, diverse}
 use Rattle.qed_model.specs.Weave.Costs.{spent}
 use Rattle.qed_model.specs.Weave.Forms.{mirror_of}
 use Rattle.qed_model.proofs.Lemmas.{fine_part, all_fine}

@@ -10,7 +10,8 @@ use Rattle.qed_model.specs.declared.item.Item.{Item}
 use Rattle.qed_model.specs.declared.item.Item.TheVariants.{Plain, Constant, Go}
 use Rattle.machine.specs.Step.{target, Ins, Class, class_of}
 use Rattle.machine.specs.Table.{ins, kinds, Kind, Addi, Andi, Add, Beq, Jalr, Lw}
-use Rattle.qed_model.specs.Weave.Diverse.{Part, part_items, parts_of, diverse_as, diverse}
+use Rattle.qed_model.specs.declared.diverse.Part.{Part}
+use Rattle.qed_model.specs.Weave.Diverse.{part_items, parts_of, diverse_as, diverse}
 use Rattle.qed_model.specs.Weave.Placed.{go_size, sum_of_sizes}
 use Rattle.qed_model.specs.Weave.Sequences.{Form, Block, End, Falls, Stops, fired_check, guard, guards_of, compare, wraps, visit_word, times, visit, sweep_range, sweep, original_as, original, mirror_as, mirrored, each_part, piece, links, before_end, leave_as, leave, go_on, body_length, prologue, PAIR_DISTANCE, DISTANCE, TEMPORARY, SPARE, pair}
 use Rattle.machine.specs.Operands.{is_auipc}

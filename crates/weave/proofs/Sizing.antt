@@ -12,7 +12,8 @@ use Rattle.tests.specs.declared.options.Options.{Options}
 use Rattle.tests.specs.declared.range.Range.{Range}
 use Rattle.tests.specs.declared.test.Test.{Test}
 use Rattle.machine.specs.Step.{target, Ins, Class, class_of, ins, Addi, Andi, Add, Beq, Jalr, Lw}
-use Rattle.qed_model.specs.Weave.Diverse.{Part, parts_of, diverse_as}
+use Rattle.qed_model.specs.declared.diverse.Part.{Part}
+use Rattle.qed_model.specs.Weave.Diverse.{parts_of, diverse_as}
 use Rattle.qed_model.specs.Weave.Placed.{go_size, sum_of_sizes}
 use Rattle.qed_model.specs.Weave.Pieces.{divided}
 use Rattle.qed_model.specs.Weave.Sequences.{Form, fired_check, guard, guards_of, compare, visit_word, visit, sweep, original_as, original, mirror_as, mirrored, each_part, piece, links, before_end, leave_as, leave, go_on, body_length, prologue, PAIR_DISTANCE, DISTANCE, TEMPORARY, SPARE, pair}

@@ -7,7 +7,8 @@ use Rattle.rv_isa.specs.Kind.{class_of}
 use Rattle.tests.specs.declared.options.Options.{Options}
 use Rattle.qed_model.specs.declared.plan.EntryRow.{EntryRow}
 use Rattle.tests.specs.declared.range.Range.{Range}
-use Rattle.qed_model.specs.Weave.Diverse.{Part, parts_of}
+use Rattle.qed_model.specs.declared.diverse.Part.{Part}
+use Rattle.qed_model.specs.Weave.Diverse.{parts_of}
 use Rattle.qed_model.specs.Weave.Placed.{go_size}
 use Rattle.machine.specs.Operands.{is_auipc}
 use Rattle.block_split.specs.declared.block.CodeBlock.{CodeBlock}

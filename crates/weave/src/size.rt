@@ -1,5 +1,5 @@
 //! How many bytes new code has, by its blocks alone: no item is made.
-ghost use Rattle.std.specs.Prelude.{◌≡◌, ℕ, ◌+◌, ◌*◌, ◌≤◌, ℤ, List, All, length, cond};
+ghost use Rattle.std.specs.Prelude.{◌≡◌, ℕ, ◌+◌, ◌*◌, ◌≤◌, List, All, length, cond};
 ghost use Rattle.block_split.specs.declared.block.CodeBlock.{CodeBlock};
 ghost use Rattle.qed_model.specs.Weave.Diverse.{parts_of};
 ghost use Rattle.qed_model.specs.Weave.Placed.{go_size, sum_of_sizes};
@@ -9,6 +9,7 @@ ghost use Rattle.weave.specs.Code.{items_of};
 ghost use Rattle.weave.specs.Sizes.{guard_bytes, guards_bytes, original_bytes, mirrored_bytes, diverse_bytes, mirror_bytes, body_bytes, links_bytes, leave_bytes, block_bytes, blocks_bytes, prologue_bytes, word_bytes, end_bytes, AreSizes};
 
 use block_split::CodeBlock;
+use mirror_forms::part_count;
 use qed_model::{Options, Range, Test};
 use rv_isa::{Class, Ins, Kind, Reg};
 
@@ -61,25 +62,6 @@ fn mirrored_size(ins: &Ins) -> u64
         Class::Store => 8,
         Class::Fence => 0,
         _ => 4,
-    }
-}
-
-/// How many words of other kinds the mirror part of a kind has, 0 where it keeps its own.
-fn part_count(kind: Kind) -> u64
-    ensures value { (n : ℤ) → result ≡ length (parts_of kind n) }
-    ensures bound { result ≤ 7 }
-{
-    match kind {
-        Kind::Addi | Kind::Slti | Kind::Sltiu | Kind::Xori | Kind::Ori | Kind::Andi => 2,
-        Kind::Slli | Kind::Srli | Kind::Srai | Kind::Slliw | Kind::Srliw | Kind::Sraiw => 2,
-        Kind::Addiw | Kind::Add | Kind::Addw | Kind::Subw | Kind::Mulw => 2,
-        Kind::Sub | Kind::Xor | Kind::Or | Kind::And | Kind::Sllw | Kind::Sraw => 3,
-        Kind::Rem | Kind::Remu | Kind::Remw | Kind::Remuw => 3,
-        Kind::Sra | Kind::Lui | Kind::Mulhsu | Kind::Divw => 4,
-        Kind::Slt | Kind::Sltu | Kind::Srlw => 5,
-        Kind::Divuw => 6,
-        Kind::Mulh | Kind::Mulhu => 7,
-        _ => 0,
     }
 }
 

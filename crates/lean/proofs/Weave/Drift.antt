@@ -9,7 +9,10 @@ use Rattle.machine.specs.declared.outcome.Cause.{Cause}
 use Rattle.machine.specs.declared.outcome.Cause.TheVariants as cause
 use Rattle.machine.specs.Table.{ins, Ins, Auipc, Addi, Beq}
 use Rattle.qed_model.specs.Promise.Kept.{is_trapped}
-use Rattle.qed_model.specs.Weave.Diverse.{Place, X0, RD, RS1, RS2, X30, X31, Part, reg_at, part_items, parts_of, diverse_as}
+use Rattle.qed_model.specs.declared.diverse.Place.{Place}
+use Rattle.qed_model.specs.declared.diverse.Place.TheVariants.{X0, RD, RS1, RS2, X30, X31}
+use Rattle.qed_model.specs.declared.diverse.Part.{Part}
+use Rattle.qed_model.specs.Weave.Diverse.{reg_at, part_items, parts_of, diverse_as}
 use Rattle.qed_model.specs.Weave.Forms.{mirror_of}
 use Rattle.qed_model.specs.Weave.Placed.{sum_of_sizes}
 use Rattle.machine.specs.Offsets.{distance_between, upper_part, lower_part}

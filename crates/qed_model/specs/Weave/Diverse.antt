@@ -4,26 +4,12 @@ use Rattle.std.specs.Prelude.{◌≡◌, ℕ, ◌/◌, ◌%◌, ◌^◌, Bool, f
 use Rattle.rv_isa.specs.declared.class.Class.TheVariants as class
 use Rattle.machine.specs.Table.{Ins, Lui, Auipc, Addi, Slti, Sltiu, Xori, Ori, Andi, Slli, Srli, Srai, Add, Sub, Sll, Slt, Sltu, Xor, Srl, Sra, Or, And, Addiw, Slliw, Srliw, Sraiw, Addw, Subw, Sllw, Srlw, Sraw, Mul, Mulh, Mulhsu, Mulhu, Div, Divu, Rem, Remu, Mulw, Divw, Divuw, Remw, Remuw, Kind, ins}
 use Rattle.machine.specs.Values.{wrapped, floor_shift}
+pub use Rattle.qed_model.specs.declared.diverse.Place.{Place}
+pub use Rattle.qed_model.specs.declared.diverse.Place.TheVariants.{X0, RD, RS1, RS2, X30, X31}
+pub use Rattle.qed_model.specs.declared.diverse.Part.{Part}
 use Rattle.qed_model.specs.Weave.Sequences.{pair, Mark, Plain, Constant, Go, Item, class_of, mirrored}
 
 -- ---- words of a mirror part
--- a register of a mirror part: x0, the pair of rd, of rs1 or of rs2, or a temporary
-pub data Place : Type 0 where
-  X0 : Place
-  RD : Place
-  RS1 : Place
-  RS2 : Place
-  X30 : Place
-  X31 : Place
-
--- a word of a mirror part: its kind, where it writes, what it reads, and its immediate
-pub record Part : Type 0 where
-  pub kind : Kind
-  pub to : Place
-  pub left : Place
-  pub right : Place
-  pub imm : ℤ
-
 -- on two registers
 abbrev pub op : Kind → Place → Place → Place → Part
 op k d a b = record { kind = k; to = d; left = a; right = b; imm = pos 0 }
