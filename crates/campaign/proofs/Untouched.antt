@@ -37,7 +37,7 @@ unfolding changed_run with_changes
 at_once c s a first word going =
     ap (changed_run s (c ∷ [])) first ∙ ap (λ b. cond b (changed c s) s) (eq-eqb c.step 0 first) ∙ ap (λ o. changed_as o c s) going ∙ ap (λ p. struck p c.value s) word
 
-pub changed_word : (cs : List Change) (output s t : State) → GoesPast output cs → (last_step cs ≡ 0 → output ≡ s) → t ≡ changed_run output cs (last_step cs) → IsChangedAt s (one_word cs) t
+pub changed_word : (cs : List Change) (output s t : State) → GoesPast output cs → output ≡ s → t ≡ changed_run output cs (last_step cs) → IsChangedAt s (one_word cs) t
 changed_word [] output s t reached here made = tt
 changed_word (c ∷ d ∷ cs) output s t reached here made = tt
 changed_word (c ∷ []) output s t reached here made = by_place c.place refl where
@@ -46,7 +46,7 @@ changed_word (c ∷ []) output s t reached here made = by_place c.place refl whe
   by_step a true e f =
       let first : c.step ≡ 0 = eqb-true c.step 0 f in
       let going : output.outcome ≡ Going = ap (λ u. u.outcome) (sym (run-none output) ∙ ap (run output) (sym first)) ∙ reached in
-      made ∙ at_once c output a first e going ∙ ap (struck (Word a) c.value) (here first)
+      made ∙ at_once c output a first e going ∙ ap (struck (Word a) c.value) here
 
   by_place : (p : Place) → c.place ≡ p → IsChangedAt s (word_changed p c.step c.value) t
   by_place (Reg r) e = tt

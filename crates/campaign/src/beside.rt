@@ -6,9 +6,11 @@ ghost use Rattle.campaign.specs.Kept.{copies_up_to};
 
 use crate::snapshots::{SPACING, Snapshots};
 use crate::stop::steps_to_stop;
+use crate::strike::Strike;
+use crate::verdict::last_step;
 use qed_model::Outcome;
 use rv_step::Machine;
-use std::alloc::{AllocError, Global};
+use std::alloc::AllocError;
 
 /// How many steps take the time in which a page is compared.
 const PAGE_STEPS: u64 = 32;
@@ -24,63 +26,60 @@ fn stands_at(way: &Snapshots, number: u64, machine: &Machine, steps: u64) -> boo
     }
 }
 
-/// What `steps_to_stop` gives of a machine that stands as copy `number` of a run does. Its last copy is taken in its place.
-fn leap_to_stop(
-    alloc: Global,
-    way: &Snapshots,
-    number: u64,
-    machine: &mut Machine,
-    made: u64,
-    most: u64,
-) -> Result<Option<u64>, AllocError>
-    requires part { made ≤ most }
-    requires number { number + 1 ≤ copies_up_to way.now.reach }
-    requires beside { machine.old.state ≡ run way.now.start (4096 * number) }
-    ensures { (s : State) → IsOn s made machine.old.state → IfOk result (TellsStop s most machine.new.state) }
-{
-    let reach = way.reach();
-    let here = SPACING * number;
-    if most - made < reach - here {
-        return Ok(None);
+impl<'a> Strike<'a> {
+    /// What `steps_beside` gives of a machine that stands as copy `number` does. The last copy is taken in its place.
+    fn leap_to_stop(
+        &self,
+        number: u64,
+        machine: &mut Machine,
+        made: u64,
+    ) -> Result<Option<u64>, AllocError>
+        requires part { made ≤ self.now.bound }
+        requires number { number + 1 ≤ copies_up_to self.now.way.now.reach }
+        requires beside { machine.old.state ≡ run self.now.way.now.start (4096 * number) }
+        ensures { (s : State) → IsOn s made machine.old.state → IfOk result (TellsStop s self.now.bound machine.new.state) }
+    {
+        let reach = self.way.reach();
+        let here = SPACING * number;
+        if self.bound - made < reach - here {
+            return Ok(None);
+        }
+        let last = reach / SPACING;
+        *machine = self.way.at(last).unwrap().copy(self.alloc)?;
+        let steps = steps_to_stop(machine, made + (SPACING * last - here), self.bound)?;
+        Ok(steps)
     }
-    let last = reach / SPACING;
-    *machine = way.at(last).unwrap().copy(alloc)?;
-    let steps = steps_to_stop(machine, made + (SPACING * last - here), most)?;
-    Ok(steps)
-}
 
-/// What `steps_to_stop` gives of a machine that has made `from` steps, and may stand after some more as a run does that is kept, which
-/// has made `at` steps then.
-pub fn steps_beside(
-    alloc: Global,
-    way: &Snapshots,
-    at: u64,
-    machine: &mut Machine,
-    from: u64,
-    most: u64,
-) -> Result<Option<u64>, AllocError>
-    requires { from ≤ most }
-    ensures { (s : State) → IsOn s from machine.old.state → IfOk result (TellsStop s most machine.new.state) }
-{
-    let mut here = at;
-    let mut made = from;
-    for number in at / SPACING + 1..way.reach() / SPACING + 1 {
-        let next = SPACING * number - here;
-        if most - made < next {
-            let steps = steps_to_stop(machine, made, most)?;
-            return Ok(steps);
+    /// What `steps_to_stop` gives, up to the bound, of a machine that has made `from` steps behind the last change, and may stand
+    /// after some more as the run without changes does.
+    pub fn steps_beside(&self, machine: &mut Machine, from: u64) -> Result<Option<u64>, AllocError>
+        requires { from ≤ self.now.bound }
+        ensures { (s : State) → IsOn s from machine.old.state → IfOk result (TellsStop s self.now.bound machine.new.state) }
+    {
+        let at = self
+            .start
+            .saturating_add(last_step(self.changes))
+            .saturating_add(from);
+        let mut here = at;
+        let mut made = from;
+        for number in at / SPACING + 1..self.way.reach() / SPACING + 1 {
+            let next = SPACING * number - here;
+            if self.bound - made < next {
+                let steps = steps_to_stop(machine, made, self.bound)?;
+                return Ok(steps);
+            }
+            let more = machine.run_made(next)?;
+            if machine.outcome() != Outcome::Going {
+                return Ok(Some(made + more));
+            }
+            made += next;
+            here = SPACING * number;
+            if stands_at(self.way, number, machine, self.bound - made) {
+                let steps = self.leap_to_stop(number, machine, made)?;
+                return Ok(steps);
+            }
         }
-        let more = machine.run_made(next)?;
-        if machine.outcome() != Outcome::Going {
-            return Ok(Some(made + more));
-        }
-        made += next;
-        here = SPACING * number;
-        if stands_at(way, number, machine, most - made) {
-            let steps = leap_to_stop(alloc, way, number, machine, made, most)?;
-            return Ok(steps);
-        }
+        let steps = steps_to_stop(machine, made, self.bound)?;
+        Ok(steps)
     }
-    let steps = steps_to_stop(machine, made, most)?;
-    Ok(steps)
 }

@@ -92,24 +92,23 @@ fn drawn_change(rng: &mut Pcg64, plan: &Plan, reach: u64, aim: Aim) -> Change
     Change { step, place, value }
 }
 
-/// A strike of so many changes, of the next random words.
+/// A strike, of the next random words.
 #[tactic(auto, unfolding(crate::specs::Draw::drawn_strike))]
 fn drawn_strike(
     alloc: Global,
     rng: &mut Pcg64,
     plan: &Plan,
     reach: u64,
-    aim: Aim,
-    changes: u64,
+    draws: &Draws,
 ) -> Result<Changes, AllocError>
     requires words { HasWords plan.now }
-    requires place { has_place_of aim.only plan.now.words ≡ true }
-    ensures strike { IfOk result (λ strike. strike ≡ drawn_strike_of (map range_of plan.now.span) reach aim changes rng.old) }
-    ensures rng { OnOk result (rng.new ≡ after (3 * changes) rng.old) }
+    requires place { has_place_of draws.now.aim.only plan.now.words ≡ true }
+    ensures strike { IfOk result (λ strike. strike ≡ drawn_strike_of (map range_of plan.now.span) reach draws.now.aim draws.now.changes rng.old) }
+    ensures rng { OnOk result (rng.new ≡ after (3 * draws.now.changes) rng.old) }
 {
     let mut made = Vec::new(alloc);
-    for _ in 0..changes {
-        let change = drawn_change(rng, plan, reach, aim);
+    for _ in 0..draws.changes {
+        let change = drawn_change(rng, plan, reach, draws.aim);
         add_change(&mut made, change)?;
     }
     Ok(Changes::of(made))
@@ -151,7 +150,7 @@ pub fn drawn_strikes(
     let mut rng = seeded(draws.seed);
     let mut strikes = Vec::new(alloc);
     for _ in 0..strike_count(draws, plan.words) {
-        let strike = drawn_strike(alloc, &mut rng, plan, reach, draws.aim, draws.changes)?;
+        let strike = drawn_strike(alloc, &mut rng, plan, reach, draws)?;
         strikes.push(strike)?;
     }
     Ok(strikes)

@@ -14,6 +14,7 @@ mod runs;
 mod snapshots;
 mod spared;
 mod stop;
+mod strike;
 mod verdict;
 mod watched;
 

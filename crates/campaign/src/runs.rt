@@ -18,7 +18,8 @@ use crate::error::StrikeError;
 use crate::later::{all_from, first_step};
 use crate::right::same_values;
 use crate::snapshots::{SPACING, Snapshots};
-use crate::verdict::{last_step, output_verdict};
+use crate::strike::Strike;
+use crate::verdict::last_step;
 use crate::watched::Watched;
 use fault_inject::{Progress, Silent, Trace, run_changed};
 use qed_model::{Bounds, Change, Changes, Outcome, Place, Range, Struck, Verdict};
@@ -202,37 +203,34 @@ impl Runs {
         let last = last_step(changes);
         let start = first_step(changes);
         let later = all_from(alloc, changes, start)?;
-        if let Some(verdict) = output_verdict(
+        let strike = Strike {
             alloc,
-            &self.output,
+            way: &self.output,
             trace,
             start,
-            output,
-            &later,
+            changes: &later,
             bound,
-        )? {
+        };
+        if let Some(verdict) = strike.verdict(output)? {
             return Ok(verdict);
         }
         let trap = self.input.trap(alloc, last, bound)?;
         input_verdict(trap)
     }
 
-    /// The same, with the output on its way, after `made` steps, which is brought to the first change. None where the input traps.
-    fn strike_on(
+    /// The same, of a copy of the output. None where the input traps.
+    fn known_verdict(
         &self,
         alloc: Global,
         trace: &Trace,
-        output: &mut Machine,
-        made: u64,
+        output: &Machine,
         changes: &[Change],
     ) -> Result<Option<Verdict>, AllocError>
         requires trace { IsTrace self.now.output trace.now }
         requires strike { IsStrike self.now.bounds changes.now }
-        requires there { output.old.state ≡ run self.now.output made }
-        ensures there { IfOk result (λ _. output.new.state ≡ run self.now.output (first_step_of changes.now)) }
-        ensures verdict { IfOk result (IsKnown self.now changes.now) }
+        requires there { output.now.state ≡ run self.now.output (first_step_of changes.now) }
+        ensures { IfOk result (IsKnown self.now changes.now) }
     {
-        self.output.go_to(alloc, output, made, first_step(changes))?;
         let there = output.copy(alloc)?;
         match self.strike_at(alloc, trace, there, changes) {
             Ok(verdict) => Ok(Some(verdict)),
@@ -282,9 +280,11 @@ impl Runs {
             if number >= end {
                 continue;
             }
-            let changes = &strikes[number];
-            let verdict = self.strike_on(alloc, &trace, &mut output, made, changes.as_slice())?;
-            made = first_step(changes.as_slice());
+            let changes = strikes[number].as_slice();
+            let first = first_step(changes);
+            self.output.go_to(alloc, &mut output, made, first)?;
+            made = first;
+            let verdict = self.known_verdict(alloc, &trace, &output, changes)?;
             end = end_behind(end, number, verdict);
             found[number] = verdict;
         }

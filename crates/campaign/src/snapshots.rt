@@ -129,25 +129,4 @@ impl Snapshots {
         *machine = self.machine_at(alloc, steps)?;
         Ok(())
     }
-
-    /// Brings a machine of this run on: it has made `from` steps behind the first `start`, and then has made `to`.
-    pub fn bring(
-        &self,
-        alloc: Global,
-        start: u64,
-        machine: &mut Machine,
-        from: u64,
-        to: u64,
-    ) -> Result<(), AllocError>
-        requires there { machine.old.state ≡ run self.now.start (start + from) }
-        requires order { from ≤ to }
-        ensures { IfOk result (λ _. machine.new.state ≡ run machine.old.state (to - from)) }
-    {
-        if to - from > SPACING && start <= u64::MAX - to {
-            *machine = self.machine_at(alloc, start + to)?;
-            return Ok(());
-        }
-        machine.run(to - from)?;
-        Ok(())
-    }
 }

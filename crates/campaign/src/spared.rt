@@ -7,12 +7,11 @@ ghost use Rattle.fault_inject.specs.Touched.{IsTrace};
 ghost use Rattle.campaign.specs.Found.{TellsStop};
 ghost use Rattle.campaign.specs.Later.{word_changed, one_word as one_word_of};
 
-use crate::beside::steps_beside;
-use crate::snapshots::{SPACING, Snapshots};
-use fault_inject::Trace;
+use crate::snapshots::SPACING;
+use crate::strike::Strike;
 use qed_model::{Change, Place};
 use rv_step::Machine;
-use std::alloc::{AllocError, Global};
+use std::alloc::AllocError;
 
 /// The address and the value of changes that are one of a word, made where they are counted from.
 pub fn one_word(changes: &[Change]) -> Option<(u64, u64)>
@@ -39,29 +38,28 @@ fn word_at_once(change: &Change) -> Option<(u64, u64)>
     }
 }
 
-/// What `steps_to_stop` gives of a machine that stands as a run does that is kept, `at` steps from its start, but for one word. Where
-/// many steps surely touch no byte of it, they are those of that run, and it goes on at the last copy before they are over.
-pub fn steps_spared(
-    alloc: Global,
-    way: &Snapshots,
-    trace: &Trace,
-    at: u64,
-    machine: &mut Machine,
-    address: u64,
-    value: u64,
-    most: u64,
-) -> Result<Option<u64>, AllocError>
-    requires trace { IsTrace way.now.start trace.now }
-    requires there { machine.old.state ≡ struck (InWord address) value (run way.now.start at) }
-    ensures { IfOk result (TellsStop machine.old.state most machine.new.state) }
-{
-    let made = trace.spared(address, at, most);
-    if made < SPACING {
-        let steps = steps_beside(alloc, way, at, machine, 0, most)?;
-        return Ok(steps);
+impl<'a> Strike<'a> {
+    /// What `steps_to_stop` gives, up to the bound, of a machine that stands as the run without changes does at `start`, but for one
+    /// word. Where many steps surely touch no byte of it, they are those of that run, and it goes on at the last copy before they are
+    /// over.
+    pub fn steps_spared(
+        &self,
+        machine: &mut Machine,
+        address: u64,
+        value: u64,
+    ) -> Result<Option<u64>, AllocError>
+        requires trace { IsTrace self.now.way.now.start self.now.trace.now }
+        requires there { machine.old.state ≡ struck (InWord address) value (run self.now.way.now.start self.now.start) }
+        ensures { IfOk result (TellsStop machine.old.state self.now.bound machine.new.state) }
+    {
+        let made = self.trace.spared(address, self.start, self.bound);
+        if made < SPACING {
+            let steps = self.steps_beside(machine, 0)?;
+            return Ok(steps);
+        }
+        *machine = self.way.machine_at(self.alloc, self.start + made)?;
+        machine.strike(&Place::Word(address), value)?;
+        let steps = self.steps_beside(machine, made)?;
+        Ok(steps)
     }
-    *machine = way.machine_at(alloc, at + made)?;
-    machine.strike(&Place::Word(address), value)?;
-    let steps = steps_beside(alloc, way, at + made, machine, made, most)?;
-    Ok(steps)
 }

@@ -13,15 +13,15 @@ all_from-requires c =
     let first = c.first_step-start.ensures in
     not_before_all c.args.changes.now c.first_step-start.result c.requires.strike.ordered (omega (arith, first))
 
-pub output_verdict-requires-clause-trace : goal.output_verdict-requires-clause-trace
-output_verdict-requires-clause-trace c = subst (λ p. IsTrace p.output c.args.trace.now) (sym c.self.view_is) c.requires.trace
+pub verdict-requires-clause-trace : goal.verdict-requires-clause-trace
+verdict-requires-clause-trace c = subst (λ p. IsTrace p.output c.args.trace.now) (sym c.self.view_is) c.requires.trace
 
-pub output_verdict-requires-clause-there : goal.output_verdict-requires-clause-there
-output_verdict-requires-clause-there c =
+pub verdict-requires-clause-there : goal.verdict-requires-clause-there
+verdict-requires-clause-there c =
     c.requires.there ∙ ap (run c.args.self.now.output) (sym c.first_step-start.ensures) ∙ ap (λ p. run p.output c.first_step-start.result) (sym c.self.view_is)
 
-pub output_verdict-requires-clause-ordered : goal.output_verdict-requires-clause-ordered
-output_verdict-requires-clause-ordered c =
+pub verdict-requires-clause-ordered : goal.verdict-requires-clause-ordered
+verdict-requires-clause-ordered c =
     let later : c.deref.result.now ≡ all_from c.first_step-start.result c.args.changes.now = c.deref.ensures.value ∙ c.in_ok-later.ensures in
     subst Ordered (sym later) (ordered_later c.args.changes.now c.first_step-start.result c.requires.strike.ordered)
 

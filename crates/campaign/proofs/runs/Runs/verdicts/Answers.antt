@@ -25,12 +25,11 @@ loop-i-preserved g c =
     let below = c.if-number-end.false in
     let behind = c.end_behind-end.ensures in
     let here = slice_get_read c.args.strikes.now (length c.args.strikes.now) k cs refl (omega (arith, below, within)) c.index-strikes-number.is in
-    let same : c.as_slice.result.now ≡ c.as_slice-in-loop-i.result.now = c.as_slice.ensures ∙ sym c.as_slice-in-loop-i.ensures in
     record {
       known = known_more c.args.self.now c.args.strikes.now c.loop-i.found.items _ k cs c.in_ok-verdict.verdict (omega (arith, below, within, count)) here refl
-          (subst (λ xs. IsKnown c.args.self.now xs c.in_ok-verdict.verdict) c.as_slice.ensures c.in_ok-verdict.ensures.verdict) c.loop-i.invariant.known;
+          (subst (λ xs. IsKnown c.args.self.now xs c.in_ok-verdict.verdict) c.as_slice-changes.ensures c.in_ok-verdict.ensures) c.loop-i.invariant.known;
       count = length-set c.loop-i.found.items k c.in_ok-verdict.verdict ∙ count;
-      there = c.in_ok-verdict.ensures.there ∙ ap (λ xs. run c.args.self.now.output (first_step xs)) same ∙ ap (run c.args.self.now.output) (sym c.first_step-made.ensures);
+      there = c.in_ok-go_to.ensures ∙ ap (λ p. run p.output c.first_step-first.result) c.self.view_is;
       within = omega (arith, behind, within);
       told = let told = c.tell.ensures.0 in omega (arith, told);
       all = c.tell.ensures.1 ∙ c.loop-i.invariant.all;

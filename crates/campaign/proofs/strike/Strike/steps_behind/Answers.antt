@@ -1,5 +1,5 @@
 use Rattle.campaign.proofs.Leaping.{on_none}
-use Rattle.campaign.proofs.verdict.steps_behind.Goals as goal
+use Rattle.campaign.proofs.strike.Strike.steps_behind.Goals as goal
 
 pub returns-in-None : goal.returns-in-None
 returns-in-None c = c.steps_beside.ensures c.args.machine.now.state (on_none c.args.machine.now.state)
