@@ -33,10 +33,7 @@ pub fn home<'a>(segments: &'a [Segment], range: Span) -> &'a Segment
     requires held { IsHeld (load_segments segments.now) (span range) }
     ensures { IsHome segments.now (span range) result.now }
 {
-    let Some(segment) = first_home(segments, range) else {
-        unreachable!();
-    };
-    segment
+    first_home(segments, range).unwrap()
 }
 
 /// The word that a segment has at an address.

@@ -10,7 +10,7 @@ ghost use Rattle.relinker.specs.Sink.{ComeNext, Takes};
 use crate::ItemSink;
 use crate::count::Count;
 use crate::error::LinkError;
-use crate::write::{put_items, put_stub};
+use crate::write::{Jumps, put_items, put_stub};
 use passes::Emit;
 use qed_model::limits::{CODE_ROOM, MAX_CODE_BYTES, MAX_NEAR_CODE_BYTES};
 use qed_model::{EntryRow, Item, Role};
@@ -120,14 +120,12 @@ impl Layout {
         requires { ComeNext (IsLaidIn self.old) items.now }
         ensures { Takes (IsLaidIn self.old) (IsLaidIn self.new) items.now }
     {
-        self.at = put_items(
-            &mut self.words,
-            &self.entries,
-            self.far,
-            self.last,
-            items,
-            self.at,
-        );
+        let jumps = Jumps {
+            rows: &self.entries,
+            last: self.last,
+            far: self.far,
+        };
+        self.at = put_items(&mut self.words, &jumps, items, self.at);
     }
 
     /// Appends the stub, behind all items that were counted. It takes no memory.

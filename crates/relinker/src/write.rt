@@ -80,10 +80,7 @@ fn word(ins: &Ins) -> u32
     ensures decode { decode_of result ≡ Some ins.now }
     ensures bound { result < 2 ^ 32 }
 {
-    match encode(ins) {
-        Some(word) => word,
-        None => unreachable!(),
-    }
+    encode(ins).unwrap()
 }
 
 /// Appends the word of an instruction. There is room for it.
@@ -117,24 +114,26 @@ fn put_two(words: &mut Vec<u32>, pair: (Ins, Ins))
     put(words, &second);
 }
 
+/// Where jumps to entries lead, and in which form.
+#[derive(Clone, Copy)]
+pub(crate) struct Jumps<'a> {
+    pub(crate) rows: &'a [EntryRow],
+    /// Where those lead that have no row.
+    pub(crate) last: u64,
+    pub(crate) far: bool,
+    ghost ascend: { EntriesAscend rows.now },
+}
+
 /// Appends the words of an item that stands at an address, and tells how many bytes they take. There is room for them.
-fn put_item(
-    words: &mut Vec<u32>,
-    rows: &[EntryRow],
-    far: bool,
-    last: u64,
-    item: &Item,
-    at: u64,
-) -> u64
-    requires ascend { EntriesAscend rows.now }
-    requires encoded { list_all is_encoded (instructions_from far (leads_to rows.now last) at (item.now ∷ [])) ≡ true }
-    requires room { 4 * vec_len words.old + size_of far item.now ≤ 4 * vec_capacity words.old }
+fn put_item(words: &mut Vec<u32>, jumps: &Jumps<'_>, item: &Item, at: u64) -> u64
+    requires encoded { list_all is_encoded (instructions_from jumps.now.far (leads_to jumps.now.rows.now jumps.now.last) at (item.now ∷ [])) ≡ true }
+    requires room { 4 * vec_len words.old + size_of jumps.now.far item.now ≤ 4 * vec_capacity words.old }
     requires small { AreWords words.old.items }
-    ensures decode { map decode_of words.new.items ≡ map decode_of words.old.items ++ map Some (instructions_from far (leads_to rows.now last) at (item.now ∷ [])) }
+    ensures decode { map decode_of words.new.items ≡ map decode_of words.old.items ++ map Some (instructions_from jumps.now.far (leads_to jumps.now.rows.now jumps.now.last) at (item.now ∷ [])) }
     ensures small { AreWords words.new.items }
-    ensures len { 4 * vec_len words.new ≡ 4 * vec_len words.old + size_of far item.now }
+    ensures len { 4 * vec_len words.new ≡ 4 * vec_len words.old + size_of jumps.now.far item.now }
     ensures capacity { vec_capacity words.old ≤ vec_capacity words.new }
-    ensures size { result ≡ size_of far item.now }
+    ensures size { result ≡ size_of jumps.now.far item.now }
     ensures bound { result ≤ 8 }
 {
     match item {
@@ -148,8 +147,8 @@ fn put_item(
             8
         }
         Item::Go(address) => {
-            let distance = distance_between(at, entry(rows, last, *address));
-            if far {
+            let distance = distance_between(at, entry(jumps.rows, jumps.last, *address));
+            if jumps.far {
                 put_two(words, far_jump(distance));
                 8
             } else {
@@ -165,23 +164,15 @@ fn put_item(
 
 /// Appends the words of items that stand from `base` on, and tells where they end. There is room for them. Most items are plain:
 /// their words are made in the loop, with no call.
-pub(crate) fn put_items(
-    words: &mut Vec<u32>,
-    rows: &[EntryRow],
-    far: bool,
-    last: u64,
-    items: &[Item],
-    base: u64,
-) -> u64
-    requires ascend { EntriesAscend rows.now }
-    requires low { base + sum_of_sizes far items.now < 2 ^ 63 }
-    requires encoded { list_all is_encoded (instructions_from far (leads_to rows.now last) base items.now) ≡ true }
-    requires room { 4 * vec_len words.old + sum_of_sizes far items.now ≤ 4 * vec_capacity words.old }
+pub(crate) fn put_items(words: &mut Vec<u32>, jumps: &Jumps<'_>, items: &[Item], base: u64) -> u64
+    requires low { base + sum_of_sizes jumps.now.far items.now < 2 ^ 63 }
+    requires encoded { list_all is_encoded (instructions_from jumps.now.far (leads_to jumps.now.rows.now jumps.now.last) base items.now) ≡ true }
+    requires room { 4 * vec_len words.old + sum_of_sizes jumps.now.far items.now ≤ 4 * vec_capacity words.old }
     requires small { AreWords words.old.items }
-    ensures at { result ≡ base + sum_of_sizes far items.now }
-    ensures decode { map decode_of words.new.items ≡ map decode_of words.old.items ++ map Some (instructions_from far (leads_to rows.now last) base items.now) }
+    ensures at { result ≡ base + sum_of_sizes jumps.now.far items.now }
+    ensures decode { map decode_of words.new.items ≡ map decode_of words.old.items ++ map Some (instructions_from jumps.now.far (leads_to jumps.now.rows.now jumps.now.last) base items.now) }
     ensures small { AreWords words.new.items }
-    ensures len { 4 * vec_len words.new ≡ 4 * vec_len words.old + sum_of_sizes far items.now }
+    ensures len { 4 * vec_len words.new ≡ 4 * vec_len words.old + sum_of_sizes jumps.now.far items.now }
     ensures capacity { vec_capacity words.old ≤ vec_capacity words.new }
 {
     let mut at = base;
@@ -191,7 +182,7 @@ pub(crate) fn put_items(
                 put(words, ins);
                 4
             }
-            _ => put_item(words, rows, far, last, item, at),
+            _ => put_item(words, jumps, item, at),
         };
     }
     at
