@@ -13,7 +13,7 @@ mod table;
 mod told;
 
 pub use laws::entries_of_blocks;
-pub use output::{bare_file, with_symbols};
+pub use output::{Code, bare_file, with_symbols};
 pub use symbols::symbols_size;
 pub use table::has_table;
 pub use told::{plan, word_count};

@@ -67,25 +67,31 @@ fn code_address(test: &Test) -> u64
     moved(moved(second, test.distance), test.distance)
 }
 
-/// The output of a file that was admitted as a test, with these entries and the words of the new code, but without its symbols.
-/// `table` says whether it has a table, as `has_table` tells of its blocks.
+/// The new code of a test, and how many bytes it has.
+pub struct Code<'a> {
+    pub words: &'a [u32],
+    pub bytes: u64,
+    pub entries: &'a [EntryRow],
+    /// Whether the output has a table, as `has_table` tells of the blocks.
+    pub table: bool,
+}
+
+/// The output of a file that was admitted as a test, with this new code, but without its symbols.
 pub fn bare_file(
     alloc: Global,
     file: &ElfFile,
     test: &Test,
-    table: bool,
-    entries: &[EntryRow],
-    code: &[u32],
+    code: &Code<'_>,
 ) -> Result<OutFile, AllocError>
-    ensures { IfOk result (λ out. (o : TestOptions) → IsEntered file.now o test.now entries.now → out ≡ record (file_of file.now o.half table entries.now (bytes_of_words code.now)) { symbols = [] }) }
+    ensures { IfOk result (λ out. (o : TestOptions) → IsEntered file.now o test.now code.now.entries.now → out ≡ record (file_of file.now o.half code.now.table code.now.entries.now (bytes_of_words code.now.words.now)) { symbols = [] }) }
 {
     let (image, span) = (test.segments.as_slice(), test.span.as_slice());
     let mut segments = halves(alloc, image, span, test.distance)?;
-    let table = table_part(alloc, table, entries, test.distance)?;
+    let table = table_part(alloc, code.table, code.entries, test.distance)?;
     let address = code_address(test);
-    let code = code_segment(alloc, address, code)?;
-    let sections = sections(alloc, &code, &table, entries)?;
-    push_parts(&mut segments, table, code)?;
+    let segment = code_segment(alloc, address, code.words)?;
+    let sections = sections(alloc, &segment, &table, code.entries)?;
+    push_parts(&mut segments, table, segment)?;
     Ok(OutFile {
         entry: address,
         flags: file.flags,

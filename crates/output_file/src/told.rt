@@ -9,9 +9,10 @@ ghost use Rattle.block_split.specs.Listed.{block_of};
 ghost use Rattle.tests.specs.Ranges.{AreSpaced};
 ghost use Rattle.output_file.specs.Told.{IsWhole, AreParts};
 
+use crate::output::Code;
 use block_split::CodeBlock;
 use elf_types::Listed;
-use qed_model::{Bounds, EntryRow, PieceRow, Plan, Range, Test};
+use qed_model::{Bounds, PieceRow, Plan, Range, Test};
 use std::alloc::{AllocError, Global};
 
 /// How many data words there are in a range.
@@ -68,25 +69,24 @@ fn piece_rows(alloc: Global, blocks: &[CodeBlock]) -> Result<Vec<PieceRow>, Allo
     Ok(rows)
 }
 
-/// What is told of the output of a test with these blocks, entries and bounds, whose new code has `code_bytes` bytes.
+/// What is told of the output of a test with these blocks, this new code and these bounds.
 #[tactic(auto, using(crate::proofs::Counting::test_spaced))]
 pub fn plan(
     alloc: Global,
     test: &Test,
     blocks: &[CodeBlock],
-    entries: &[EntryRow],
-    code_bytes: u64,
+    code: &Code<'_>,
     bounds: Bounds,
 ) -> Result<Plan, AllocError>
-    ensures { IfOk result (λ plan. (c : NewCode) (f : ElfFile) (o : Options) → All IsWhole blocks.now → AreParts c f o test.now entries.now code_bytes bounds → IsToldOf c f o (map block_of blocks.now) plan) }
+    ensures { IfOk result (λ plan. (c : NewCode) (f : ElfFile) (o : Options) → All IsWhole blocks.now → AreParts c f o test.now code.now.entries.now code.now.bytes bounds → IsToldOf c f o (map block_of blocks.now) plan) }
 {
     let pieces = piece_rows(alloc, blocks)?;
     Ok(Plan {
         base: test.base,
         distance: test.distance,
         words: word_count(test.span.as_slice()),
-        code_bytes,
-        entries: Listed::of(Vec::from_slice(alloc, entries)?),
+        code_bytes: code.bytes,
+        entries: Listed::of(Vec::from_slice(alloc, code.entries)?),
         pieces: Listed::of(pieces),
         span: Listed::of(Vec::from_slice(alloc, test.span.as_slice())?),
         bounds,

@@ -8,7 +8,7 @@ pub returns : goal.returns
 returns c = λ o e.
     let f = c.args.file.now in
     let t = c.args.test.now in
-    let rows = c.args.entries.now in
+    let rows = c.args.code.now.entries.now in
     let segments = c.as_slice-image.result.now in
     let high = top f o t rows e in
     let at : c.code_address-address.result ≡ t.base + 3 * t.distance = c.code_address-address.ensures (omega (arith, high)) in
@@ -16,4 +16,4 @@ returns c = λ o e.
     let table = c.in_ok-table.ensures (t.base + t.distance) e.entries (table_room f o t rows e) in
     let all = c.of.ensures ∙ c.in_ok-push_parts.ensures in
     let sections = c.of-2.ensures ∙ c.in_ok-sections.ensures in
-    file_made f o t rows e c.args.table (bytes_of c.args.code.now) c.code_address-address.result at c.in_ok-segments.segments.items c.of.result c.in_ok-table.table c.in_ok-code.code c.of-2.result c.of-3.result [] both table c.in_ok-code.ensures all sections (c.of-3.ensures ∙ c.new.ensures.items)
+    file_made f o t rows e c.args.code.now.table (bytes_of c.args.code.now.words.now) c.code_address-address.result at c.in_ok-segments.segments.items c.of.result c.in_ok-table.table c.in_ok-segment.segment c.of-2.result c.of-3.result [] both table c.in_ok-segment.ensures all sections (c.of-3.ensures ∙ c.new.ensures.items)
