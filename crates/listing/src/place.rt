@@ -1,5 +1,5 @@
 //! One word of new code: its line, its symbol, and what differed where it is a check that fired.
-ghost use Rattle.std.specs.Prelude.{◌≡◌, ◌<◌, ◌++◌, None, Some, IfOk, OnOk, string_bytes};
+ghost use Rattle.std.specs.Prelude.{◌≡◌, ◌<◌, ◌++◌, None, IfOk, IsSome, OnOk, string_bytes};
 ghost use Rattle.std.specs.Option.{option_copied};
 ghost use Rattle.std.specs.Str.{is_utf8};
 ghost use Rattle.listing.specs.Roles.{role_at as role_at_of, rows_bytes, input_address as input_address_of, is_telling as is_telling_of, is_before as is_before_of, is_nearer as is_nearer_of, nearer as nearer_of, nearest as nearest_of, symbol_line, symbol_text, pair_text, found_text, fired_text, word_text as word_text_of};
@@ -17,19 +17,19 @@ use texts::{MOST_OF_NAME, printable};
 /// EBREAK, which a check reaches where it fires.
 const EBREAK: u32 = 0x0010_0073;
 
-/// What the byte at an offset into rows is for. The rows have more bytes.
-pub fn role_at(rows: &[RoleRow], offset: u64) -> Role
-    requires { offset < rows_bytes rows.now }
-    ensures { role_at_of rows.now offset ≡ Some result }
+/// What the byte at an offset into rows is for; None where they have no more bytes.
+pub fn role_at(rows: &[RoleRow], offset: u64) -> Option<Role>
+    ensures role { result ≡ role_at_of rows.now offset }
+    ensures some { offset < rows_bytes rows.now → IsSome result }
 {
     let mut rest = offset;
     for row in rows {
         if rest < row.bytes {
-            return row.role;
+            return Some(row.role);
         }
         rest -= row.bytes;
     }
-    unreachable!()
+    None
 }
 
 /// The input address of which a role tells, of a piece its first.

@@ -32,7 +32,7 @@ fn tell_word(alloc: Global, code: &Explained, at: u64) -> Result<Answer, AllocEr
     let words = code.words.as_slice();
     match word_number(code.base, words.len(), at) {
         Some(number) => {
-            let role = role_at(code.roles.as_slice(), at - code.base);
+            let role = role_at(code.roles.as_slice(), at - code.base).unwrap();
             let symbols = code.file.symbols.as_slice();
             let text = word_text(alloc, role, at, words[number], symbols)?;
             Ok(plain(Status::Done, text))
