@@ -64,9 +64,7 @@ impl Window {
         if address.wrapping_sub(self.first) >= self.count {
             return None;
         }
-        let Some(code) = &self.code else {
-            unreachable!()
-        };
+        let code = self.code.as_ref()?;
         Some(code.word(address))
     }
 }
