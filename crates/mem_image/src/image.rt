@@ -56,6 +56,22 @@ fn slot(address: u64) -> usize
 }
 
 impl Image {
+    /// The image of segments, or None where two of them share a byte.
+    fn paged(alloc: Global, specs: &[SegmentSpec]) -> Result<Option<Image>, AllocError>
+        requires { AllFitMemory (segments_of specs.now) }
+        ensures made { IfOk result (λ made. IfSome made (λ image. image ≡ memory_of (segments_of specs.now))) }
+        ensures apart { IfOk result (λ made. IfSome made (λ _. AreApart (segments_of specs.now))) }
+        ensures shared { IfOk result (λ made. IfNone made (¬ (AreApart (segments_of specs.now)))) }
+    {
+        let Some(pages) = pages_of(alloc, specs)? else {
+            return Ok(None);
+        };
+        Ok(Some(Image {
+            pages: Pages::of(pages),
+            near: [0; 64],
+        }))
+    }
+
     /// The bytes of each segment, then zeros up to its size in memory, with its permissions. Each segment has at most `memory`
     /// bytes and ends at 2^64 or before. `Overlap` comes exactly where two segments share a byte, with the least such pair.
     pub fn make(alloc: Global, specs: &[SegmentSpec]) -> Result<Image, ImageError>
@@ -64,13 +80,19 @@ impl Image {
         ensures apart { IfOk result (λ _. AreApart (segments_of specs.now)) }
         ensures error { IfErr result (Explains (segments_of specs.now)) }
     {
-        match pages_of(alloc, specs) {
-            Ok(Some(pages)) => Ok(Image {
-                pages: Pages::of(pages),
-                near: [0; 64],
-            }),
+        match Image::paged(alloc, specs) {
+            Ok(Some(image)) => Ok(image),
             _ => Err(why_not(specs)),
         }
+    }
+
+    /// The image of segments of which no two share a byte, as `make` gives it. The only error is a lack of memory.
+    pub fn of(alloc: Global, specs: &[SegmentSpec]) -> Result<Image, AllocError>
+        requires fit { AllFitMemory (segments_of specs.now) }
+        requires apart { AreApart (segments_of specs.now) }
+        ensures { IfOk result (λ image. image ≡ memory_of (segments_of specs.now)) }
+    {
+        Ok(Image::paged(alloc, specs)?.unwrap())
     }
 
     /// The number of `width` bytes from the address on, or None where one of them is not mapped with PF_R. The width is 1, 2, 4
