@@ -13,7 +13,7 @@ use crate::error::HartsError;
 use crate::parts::{all_specs, start_harts};
 use crate::standing::{any_fired, any_going, any_trapped, is_going};
 use elf_types::ElfFile;
-use mem_image::{Image, ImageError, first_sharing};
+use mem_image::{Image, first_sharing};
 use qed_model::{Outcome, Place};
 use rv_isa::Reg;
 use rv_step::Hart;
@@ -63,11 +63,7 @@ impl World {
         }
         let specs = all_specs(alloc, files)?;
         let harts = start_harts(alloc, files)?;
-        let image = match Image::make(alloc, &specs) {
-            Ok(image) => image,
-            Err(ImageError::Memory) => return Err(HartsError::Memory),
-            Err(ImageError::Overlap(_, _)) => unreachable!(),
-        };
+        let image = Image::of(alloc, &specs)?;
         Ok(World { harts, image })
     }
 

@@ -50,11 +50,7 @@ impl Machine {
         ensures { IfOk result (λ machine. machine ≡ begun (start (loaded_file file.now) regs.now)) }
     {
         let specs = specs(alloc, file.segments.as_slice())?;
-        let image = match Image::make(alloc, &specs) {
-            Ok(image) => image,
-            // No two segments share a byte, so that is all that can be wrong.
-            Err(_) => return Err(AllocError),
-        };
+        let image = Image::of(alloc, &specs)?;
         Ok(Machine {
             hart: Hart::start(alloc, file, regs)?,
             image,
