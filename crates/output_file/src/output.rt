@@ -68,6 +68,7 @@ fn code_address(test: &Test) -> u64
 }
 
 /// The new code of a test, and how many bytes it has.
+#[derive(Clone, Copy)]
 pub struct Code<'a> {
     pub words: &'a [u32],
     pub bytes: u64,
