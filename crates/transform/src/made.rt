@@ -19,7 +19,7 @@ use bound_calc::{bounds, lean_bounds};
 use elf_types::OutFile;
 use elf_write::{file_size, names_size};
 use lean::lean_code;
-use output_file::{bare_file, has_table, plan, symbols_size, with_symbols, word_count};
+use output_file::{Code, bare_file, has_table, plan, symbols_size, with_symbols, word_count};
 use qed_model::limits::{MAX_OUTPUT_BYTES, MAX_OUTPUT_SEGMENTS};
 use qed_model::{Bounds, Limit, Options, Plan, Shape};
 use relinker::{LinkError, Linked};
@@ -156,16 +156,15 @@ pub(crate) fn make(alloc: Global, cut: &CutTest, options: &Options) -> Result<Ma
 {
     let code = code_of(alloc, cut, options)?;
     let (blocks, entries) = (cut.blocks.as_slice(), code.linked.entries.as_slice());
-    let size = 4 * code.linked.words.len() as u64;
-    let bare = bare_file(
-        alloc,
-        &cut.file,
-        &cut.test,
-        code.table,
+    let bytes = 4 * code.linked.words.len() as u64;
+    let new = Code {
+        words: &code.linked.words,
+        bytes,
         entries,
-        &code.linked.words,
-    )?;
-    let plan = plan(alloc, &cut.test, blocks, entries, size, code.bounds)?;
+        table: code.table,
+    };
+    let bare = bare_file(alloc, &cut.file, &cut.test, &new)?;
+    let plan = plan(alloc, &cut.test, blocks, &new, code.bounds)?;
     let symbols = cut.file.symbols.as_slice();
     check_bare(&bare, symbols_size(symbols))?;
     let out = with_symbols(alloc, bare, entries, symbols)?;
