@@ -1,13 +1,13 @@
 //! The bounds of the lean form.
 ghost use Rattle.std.specs.Prelude.{◌≡◌, ◌+◌, ◌*◌, ◌≤◌, ◌<◌, ◌^◌};
 ghost use Rattle.std.specs.Option.{SomeIff};
-ghost use Rattle.qed_model.specs.Weave.Bounds.{cost_of, end_bound, entry_steps as entry_steps_of};
-ghost use Rattle.qed_model.specs.Weave.LeanBounds.{check_bound, period as period_of, bounds_of};
+ghost use Rattle.qed_model.specs.declared.steps.TheConstants.{LEAN_LEAVE_STEPS};
+ghost use Rattle.qed_model.specs.Weave.LeanBounds.{cost_of, entry_steps as entry_steps_of, call_steps as call_steps_of, check_bound, period as period_of, bounds_of};
 ghost use Rattle.qed_model.specs.Weave.Pieces.{piece_count};
 ghost use Rattle.bound_calc.specs.Fitting.{fitting, AreSmall};
 
 use crate::steps::{end, fitting, round, told};
-use qed_model::steps::{entry_steps, instruction_steps};
+use qed_model::steps::{LEAN_LEAVE_STEPS, call_steps, entry_steps, lean_instruction_steps};
 use qed_model::{Bounds, Shape};
 
 /// The check.
@@ -16,17 +16,32 @@ fn check(shape: &Shape) -> Option<u64>
     ensures { result ≡ fitting (check_bound shape.now.words shape.now.ranges shape.now.round) }
 {
     let round = round(shape)?;
-    fitting(44 + u128::from(round))
+    fitting(36 + u128::from(round))
+}
+
+/// An entry that goes to the check.
+fn call(shape: &Shape) -> u128
+    ensures value { result ≡ entry_steps_of shape.now.land + call_steps_of shape.now.land }
+    ensures bound { result ≤ 9 }
+{
+    u128::from(entry_steps(shape.land) + call_steps(shape.land))
 }
 
 /// The longest piece, with a check before it and the leave.
 fn piece(shape: &Shape, check: u64) -> Option<u64>
-    ensures { result ≡ fitting (20 + 2 * entry_steps_of shape.now.land + check + cost_of shape.now.diverse * shape.now.inst_max) }
+    ensures { result ≡ fitting (LEAN_LEAVE_STEPS + call_steps_of shape.now.land + 2 * entry_steps_of shape.now.land + check + cost_of shape.now.diverse * shape.now.inst_max) }
 {
-    let cost = u128::from(instruction_steps(shape.diverse));
+    let cost = u128::from(lean_instruction_steps(shape.diverse));
     let body = cost * u128::from(shape.inst_max);
-    let entry = u128::from(entry_steps(shape.land));
-    fitting(20 + 2 * entry + body + u128::from(check))
+    let entry = u128::from(entry_steps(shape.land)) + call(shape);
+    fitting(u128::from(LEAN_LEAVE_STEPS) + entry + u128::from(check) + body)
+}
+
+/// The steps from check to check.
+fn period(shape: &Shape, check: u64, every: u64) -> Option<u64>
+    ensures { result ≡ fitting (period_of shape.now.land check every) }
+{
+    fitting(u128::from(check) + u128::from(every) + call(shape))
 }
 
 /// The checks in which all words are visited, and one more.
@@ -48,9 +63,8 @@ pub fn lean_bounds(shape: &Shape, every: u64) -> Option<Bounds>
     let check = check(shape)?;
     let piece = piece(shape, check)?;
     let start = fitting(31 + end(shape))?;
-    let entry = u128::from(entry_steps(shape.land));
-    let period = fitting(u128::from(check) + u128::from(every) + entry)?;
-    let first = 34 + entry + u128::from(start);
+    let period = period(shape, check, every)?;
+    let first = 22 + call(shape) + u128::from(start);
     let register = fitting(first + u128::from(period))?;
     if shape.words == 0 {
         return Some(told(piece, register, None, start));

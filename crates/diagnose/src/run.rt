@@ -9,8 +9,8 @@ use qed_io::Shelf;
 use qed_model::{Change, Place};
 use qed_words::Order;
 use rv_decode::decode;
-use rv_isa::profile::{SIGNATURE, SPARE, TEMPORARY};
-use rv_isa::{Ins, Kind};
+use rv_isa::profile::{DISTANCE, LAST_ORIGINAL, PAIR_DISTANCE, SIGNATURE, SPARE, TEMPORARY};
+use rv_isa::{Class, Ins, Kind};
 use std::alloc::{AllocError, Global};
 use texts::digits;
 
@@ -49,28 +49,83 @@ fn before(file: &ElfFile, address: u64, bytes: u64) -> Option<Ins> {
     decode(word_at(file, address.wrapping_sub(bytes))?)
 }
 
-/// What a check of an output compares that tests no register of the test, by its first register; behind an ADDI it compares where
-/// the check was called from.
-fn compared(first: u8, is_call: bool) -> Option<&'static str> {
-    match first {
-        SIGNATURE => Some("the signature in x16 is not that of this entry"),
-        TEMPORARY if is_call => Some("the check was not called by the block at the address in x15"),
-        TEMPORARY => Some("the data word at the address in x15 and its duplicate differ"),
-        SPARE => Some("the signature in x16 is not that of this block"),
+/// Whether a register is a pair, or x0.
+fn is_pair(number: u8) -> bool {
+    number == 0 || (number > PAIR_DISTANCE && number <= PAIR_DISTANCE + LAST_ORIGINAL)
+}
+
+/// Whether an instruction is a check in front of an EBREAK: a comparison, or in an output a branch on pairs.
+fn is_check(ins: &Ins, is_output: bool) -> bool {
+    let is_way = is_pair(ins.rs1.number()) && is_pair(ins.rs2.number());
+    ins.kind == Kind::Beq || (is_output && is_way && ins.class() == Class::Branch)
+}
+
+/// Whether a branch is taken on two numbers.
+fn is_taken(kind: Kind, one: u64, other: u64) -> bool {
+    match kind {
+        Kind::Beq => one == other,
+        Kind::Bne => one != other,
+        Kind::Blt => one.cast_signed() < other.cast_signed(),
+        Kind::Bge => one.cast_signed() >= other.cast_signed(),
+        Kind::Bltu => one < other,
+        _ => one >= other,
+    }
+}
+
+/// What a check of an output compares that tests no register of the test, by its registers and the instruction in front of it.
+fn compared(first: u8, second: u8, before: Option<Kind>) -> Option<&'static str> {
+    match (first, second, before) {
+        (DISTANCE, TEMPORARY, _) => Some("x14 is not the distance of the halves"),
+        (SIGNATURE, TEMPORARY, Some(Kind::Andi)) => {
+            Some("the jump by register leads elsewhere by the original than by its pair")
+        }
+        (SIGNATURE, TEMPORARY, Some(Kind::Addi)) => {
+            Some("the signature in x16 is not that of this entry")
+        }
+        (SIGNATURE, TEMPORARY, _) => {
+            Some("the check was called from another block than that of the signature")
+        }
+        (TEMPORARY, SPARE, Some(Kind::Lui)) => {
+            Some("two look-ups of the entry of the signature differ")
+        }
+        (TEMPORARY, SPARE, _) => {
+            Some("the data word at the address in x15 and its duplicate differ")
+        }
         _ => None,
     }
 }
 
+/// What differs at a check of two registers that fires in an output, by the instruction in front of it.
+fn difference(
+    alloc: Global,
+    first: u8,
+    second: u8,
+    before: Option<Kind>,
+) -> Result<String, AllocError> {
+    if first <= LAST_ORIGINAL && second == SPARE {
+        return format!(in alloc; "x{first} and its pair, by way of x31, differ");
+    }
+    if is_pair(first) && is_pair(second) {
+        return format!(in alloc;
+            "x{first} and x{second} decide otherwise than the originals of the branch"
+        );
+    }
+    match compared(first, second, before) {
+        Some(sentence) => String::from_str(alloc, sentence),
+        None => format!(in alloc; "x{first} and x{second} differ"),
+    }
+}
+
 /// The value of a register, as the lines about a run print it.
-fn printed_value(printed: &str, number: u8) -> Option<&str> {
+fn printed_value(printed: &str, number: u8) -> Option<u64> {
     if number == 0 {
-        return Some("0x0000000000000000");
+        return Some(0);
     }
     for line in printed.lines() {
-        let (name, value) = line.split_once(" ").unwrap_or(("", ""));
+        let (name, value) = line.split_once(" 0x").unwrap_or(("", ""));
         if let Some(rest) = name.strip_prefix("x") {
             if digits(10, 2, rest.as_bytes()) == Some(u64::from(number)) {
-                return Some(value);
+                return digits(16, 16, value.as_bytes());
             }
         }
     }
@@ -82,7 +137,7 @@ fn fired(alloc: Global, file: &ElfFile, printed: &str) -> Result<String, AllocEr
     let line = printed.lines().next().unwrap_or("");
     let ebreak = address_behind(line, " at 0x").unwrap_or(0);
     let check = match before(file, ebreak, 4) {
-        Some(ins) if ins.kind == Kind::Beq => ins,
+        Some(ins) if is_check(&ins, is_output(file)) => ins,
         _ => return Ok(String::new(alloc)),
     };
     let (first, second) = (check.rs1.number(), check.rs2.number());
@@ -93,18 +148,28 @@ fn fired(alloc: Global, file: &ElfFile, printed: &str) -> Result<String, AllocEr
     let (Some(one), Some(other)) = values else {
         return Ok(String::new(alloc));
     };
-    if one == other {
+    if is_taken(check.kind, one, other) {
+        return passed(alloc, check.kind, first, second);
+    }
+    let text = if is_output(file) {
+        let kind = before(file, ebreak, 8).map(|ins| ins.kind);
+        difference(alloc, first, second, kind)?
+    } else {
+        format!(in alloc; "x{first} and x{second} differ")?
+    };
+    format!(in alloc; "qed: a check fired: {text}\n")
+}
+
+/// That the registers pass the check in front of an EBREAK that was reached.
+fn passed(alloc: Global, kind: Kind, first: u8, second: u8) -> Result<String, AllocError> {
+    if kind == Kind::Beq {
         return format!(in alloc;
             "qed: x{first} and x{second} are equal at the ebreak behind their check: a jump may have led there\n"
         );
     }
-    let is_call = before(file, ebreak, 8).is_some_and(|ins| ins.kind == Kind::Addi);
-    match compared(first, is_call) {
-        Some(sentence) if is_output(file) => {
-            format!(in alloc; "qed: a check fired: {sentence}\n")
-        }
-        _ => format!(in alloc; "qed: a check fired: x{first} and x{second} differ\n"),
-    }
+    format!(in alloc;
+        "qed: x{first} and x{second} pass the check before the ebreak: a jump may have led there\n"
+    )
 }
 
 /// What mends how a run ended, by the first two words of its line, and where it stands.

@@ -6,8 +6,7 @@ use Rattle.qed_model.specs.Weave.Placed.{go_size}
 use Rattle.qed_model.specs.declared.item.Item.{Item}
 use Rattle.qed_model.specs.declared.item.Item.TheVariants.{Plain, Go}
 use Rattle.qed_model.specs.Weave.Sequences.{guards_of, links, leave_as, TEMPORARY}
-pub use Rattle.qed_model.specs.Weave.Lean.{look_up}
-pub use Rattle.weave_core.specs.Leaving.{leave_form, left_as, left, IsLeft, Enters, Leaving, LeavesOn}
+pub use Rattle.weave_core.specs.Leaving.{leave_form, left_as, left, look_and_go, IsLeft, Enters, Leaving, LeavesOn}
 
 -- ---- the words of a leave, part by part
 -- behind the choice of the signature
@@ -16,7 +15,7 @@ branch_end i next to far = guards_of i ++ (Plain (ins i.kind 0 i.rs1 i.rs2 (pos 
 
 -- the target by the original
 abbrev pub aim_of : Ins → ℕ → List Item
-aim_of i at = Plain (ins Addi TEMPORARY i.rs1 0 i.imm) ∷ Plain (ins Andi TEMPORARY TEMPORARY 0 (neg_ℤ (pos 2))) ∷ (links i at ++ look_up)
+aim_of i at = Plain (ins Addi TEMPORARY i.rs1 0 i.imm) ∷ Plain (ins Andi TEMPORARY TEMPORARY 0 (neg_ℤ (pos 2))) ∷ (links i at ++ look_and_go)
 
 -- and the whole
 abbrev pub indirect_of : Ins → ℕ → List Item

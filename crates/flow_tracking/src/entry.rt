@@ -1,5 +1,6 @@
 //! The entry of a block.
-ghost use Rattle.std.specs.Prelude.{◌≡◌};
+ghost use Rattle.std.specs.Prelude.{◌≡◌, ◌++◌, OnOk, OnErr};
+ghost use Rattle.qed_model.specs.Weave.Sequences.{check_sign};
 
 use passes::{Emit, Pass, plain};
 use qed_model::Item;
@@ -11,6 +12,23 @@ use std::alloc::AllocError;
 /// instruction.
 #[derive(Clone, Copy, Drop)]
 pub struct Entry;
+
+/// Appends what fires where the signature is not that of an input address.
+///
+/// Errors: want of memory, and then nothing is appended.
+pub fn put_check_sign(at: u64, out: &mut Emit) -> Result<(), AllocError>
+    ensures all { OnOk result (out.new ≡ out.old ++ check_sign at) }
+    ensures none { OnErr result (out.new ≡ out.old) }
+{
+    let zero = register(0);
+    let address = register(TEMPORARY);
+    out.put(&[
+        Item::Constant(address, at),
+        plain(Kind::Beq, zero, register(SIGNATURE), address, 8),
+        plain(Kind::Ebreak, zero, zero, zero, 0),
+    ])?;
+    Ok(())
+}
 
 impl Pass for Entry {
     ghost use Rattle.std.specs.Prelude.{[]};
@@ -35,14 +53,11 @@ impl Pass for Entry {
 
     ghost leaves = { λ p i at w v n z. ⊥ };
 
+    #[tactic(auto, using(passes::specs::Emitted::part_none, passes::specs::Emitted::part_first, passes::specs::Emitted::part_second))]
     fn emit(&self, _ins: &Ins, at: u64, out: &mut Emit) -> Result<(), AllocError> {
-        let zero = register(0);
-        out.put(&[
-            Item::Mark(at),
-            Item::Constant(register(TEMPORARY), at),
-            plain(Kind::Beq, zero, register(SIGNATURE), register(TEMPORARY), 8),
-            plain(Kind::Ebreak, zero, zero, zero, 0),
-        ])
+        out.push(Item::Mark(at))?;
+        put_check_sign(at, out)?;
+        Ok(())
     }
 
     ghost quiet = { λ p i at f. quiet_enter at };

@@ -1,16 +1,17 @@
 //! The leave of a block.
 ghost use Rattle.std.specs.Prelude.{◌≡◌, ◌≤◌, ◌++◌, OnOk, OnErr};
 ghost use Rattle.rv_isa.specs.declared.profile.TheConstants.{LAST_ORIGINAL};
+ghost use Rattle.qed_model.specs.Weave.Lean.{look_up};
 ghost use Rattle.qed_model.specs.Weave.Sequences.{guard as guard_of, guards_of, links as links_of, go_on, leave_as};
 ghost use Rattle.machine.specs.Step.{target as target_of};
 ghost use Rattle.rv_isa.specs.declared.class.Class.TheVariants as class;
 ghost use Rattle.passes.specs.Emitted.{AppendsPart};
-ghost use Rattle.flow_tracking.specs.Leaving.{leave_form, branch_end, look_up, aim_of, indirect_of};
+ghost use Rattle.flow_tracking.specs.Leaving.{leave_form, branch_end, look_and_go, aim_of, indirect_of};
 
 use passes::{Emit, Pass, plain, put_guard, target};
 use qed_model::Item;
 use rv_isa::profile::{DISTANCE, SIGNATURE, SPARE, TEMPORARY};
-use rv_isa::{Class, Ins, Kind, register};
+use rv_isa::{Class, Ins, Kind, Reg, register};
 use std::alloc::AllocError;
 
 /// The leave of a block's end, or of a block that falls to `next`, for which the instruction is
@@ -50,11 +51,9 @@ pub fn put_links(ins: &Ins, at: u64, out: &mut Emit) -> Result<(), AllocError>
     Ok(())
 }
 
-/// Appends the comparisons of both source registers, up to x13, with their pairs.
-///
-/// Errors: want of memory, and then the first of them are appended.
+/// The comparisons of both source registers, up to x13, with their pairs.
 #[tactic(auto, using(passes::specs::Emitted::part_none, passes::specs::Emitted::part_first, passes::specs::Emitted::part_second))]
-pub fn put_guards_of(ins: &Ins, out: &mut Emit) -> Result<(), AllocError>
+fn put_guards_of(ins: &Ins, out: &mut Emit) -> Result<(), AllocError>
     requires rs1 { ins.now.rs1 ≤ LAST_ORIGINAL }
     requires rs2 { ins.now.rs2 ≤ LAST_ORIGINAL }
     ensures all { OnOk result (out.new ≡ out.old ++ guards_of ins.now) }
@@ -120,24 +119,35 @@ fn put_branch(ins: &Ins, at: u64, far: bool, out: &mut Emit) -> Result<(), Alloc
     Ok(())
 }
 
-/// Appends the look-up of the target in x30 in the table, and the jump.
+/// Appends the look-up of the entry of the input address in a register, into x30.
 ///
 /// Errors: want of memory, and then nothing is appended.
-pub fn put_look_up(out: &mut Emit) -> Result<(), AllocError>
-    ensures all { OnOk result (out.new ≡ out.old ++ look_up) }
+pub fn put_look_up(address: Reg, out: &mut Emit) -> Result<(), AllocError>
+    ensures all { OnOk result (out.new ≡ out.old ++ look_up address) }
     ensures none { OnErr result (out.new ≡ out.old) }
 {
     let zero = register(0);
     let half = register(DISTANCE);
-    let to = register(TEMPORARY);
+    let entry = register(TEMPORARY);
     let place = register(SPARE);
     out.put(&[
-        plain(Kind::Add, place, to, half, 0),
+        plain(Kind::Add, place, address, half, 0),
         plain(Kind::Add, place, place, half, 0),
-        plain(Kind::Lw, to, place, zero, 0),
-        plain(Kind::Add, to, to, place, 0),
-        plain(Kind::Jalr, zero, to, zero, 0),
+        plain(Kind::Lw, entry, place, zero, 0),
+        plain(Kind::Add, entry, entry, place, 0),
     ])?;
+    Ok(())
+}
+
+/// The look-up of the target in x30, and the jump to its entry.
+#[tactic(auto, using(passes::specs::Emitted::part_none, passes::specs::Emitted::part_first, passes::specs::Emitted::part_second))]
+fn put_look_and_go(out: &mut Emit) -> Result<(), AllocError>
+    ensures all { OnOk result (out.new ≡ out.old ++ look_and_go) }
+    ensures part { OnErr result (AppendsPart out.old out.new look_and_go) }
+{
+    let (zero, entry) = (register(0), register(TEMPORARY));
+    put_look_up(entry, out)?;
+    out.push(plain(Kind::Jalr, zero, entry, zero, 0))?;
     Ok(())
 }
 
@@ -145,11 +155,11 @@ pub fn put_look_up(out: &mut Emit) -> Result<(), AllocError>
 #[tactic(auto, using(passes::specs::Emitted::part_none, passes::specs::Emitted::part_first, passes::specs::Emitted::part_second))]
 fn put_linked(ins: &Ins, at: u64, out: &mut Emit) -> Result<(), AllocError>
     requires { ins.now.rd ≤ LAST_ORIGINAL }
-    ensures all { OnOk result (out.new ≡ out.old ++ (links_of ins.now at ++ look_up)) }
-    ensures part { OnErr result (AppendsPart out.old out.new (links_of ins.now at ++ look_up)) }
+    ensures all { OnOk result (out.new ≡ out.old ++ (links_of ins.now at ++ look_and_go)) }
+    ensures part { OnErr result (AppendsPart out.old out.new (links_of ins.now at ++ look_and_go)) }
 {
     put_links(ins, at, out)?;
-    put_look_up(out)?;
+    put_look_and_go(out)?;
     Ok(())
 }
 
@@ -170,11 +180,9 @@ fn put_aim(ins: &Ins, at: u64, out: &mut Emit) -> Result<(), AllocError>
     Ok(())
 }
 
-/// Appends the jump of a JALR: the guard of its original, which gives the target, and the look-up. The pair has set the signature.
-///
-/// Errors: want of memory, and then a part may be appended.
+/// The jump of a JALR: the guard of its original, which gives the target, and the look-up. The pair has set the signature.
 #[tactic(auto, using(passes::specs::Emitted::part_none, passes::specs::Emitted::part_first, passes::specs::Emitted::part_second))]
-pub fn put_leap(ins: &Ins, at: u64, out: &mut Emit) -> Result<(), AllocError>
+fn put_leap(ins: &Ins, at: u64, out: &mut Emit) -> Result<(), AllocError>
     requires rd { ins.now.rd ≤ LAST_ORIGINAL }
     requires rs1 { ins.now.rs1 ≤ LAST_ORIGINAL }
     ensures all { OnOk result (out.new ≡ out.old ++ (guard_of ins.now.rs1 ++ aim_of ins.now at)) }

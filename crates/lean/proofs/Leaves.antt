@@ -1,19 +1,35 @@
 -- The parts of a leave: those before an ECALL, and the rest.
-use Rattle.std.proofs.Common.{◌≡◌, ℕ, Option, Some, None, cond, List, [], ◌∷◌, ◌++◌, refl}
+use Rattle.std.proofs.Common.{◌≡◌, ℕ, ◌+◌, ◌*◌, length, sym, ap, ◌∙◌, Option, Some, None, cond, List, [], ◌∷◌, ◌++◌, refl}
 use Rattle.rv_isa.specs.declared.class.Class.TheVariants as class
 use Rattle.qed_model.specs.declared.item.Item.{Item}
 use Rattle.qed_model.specs.declared.role.Role.TheVariants as role
 use Rattle.machine.specs.Step.{Ins, Class, class_of}
+use Rattle.qed_model.specs.Weave.Blocks.{begins_at}
+use Rattle.qed_model.specs.Weave.LeanCode.{fall_words}
 use Rattle.qed_model.specs.Weave.LeanParts.{leave_as_parts, leave_parts}
 use Rattle.qed_model.specs.Weave.Sequences.{Form}
+use Rattle.block_split.specs.declared.block.CodeBlock.{CodeBlock}
 use Rattle.block_split.specs.Listed.{end_of}
 use Rattle.weave.specs.Leaves.{is_end_as}
+use Rattle.lean.specs.declared.weaver.LeanWeaver.{LeanWeaver}
+use Rattle.lean.specs.Form.{form, blocks_in, parts_of, IsOwn}
 use Rattle.lean.specs.Leaves.{ecall_parts, before_parts, last_as, last_items}
 
-pub leave_split :
-    (form : Form) (fall : ℕ → List Item) (e : Option Ins) (a at : ℕ) → leave_parts form fall (end_of e) a at ≡ before_parts form e a ++ ((role.Leave at, last_items fall e a at) ∷ [])
-leave_split form fall None a at = refl
-leave_split form fall (Some i) a at = by (class_of i.kind) where
-  by : (c : Class) → leave_as_parts form fall c i a at ≡ cond (is_end_as c) (ecall_parts form a) [] ++ ((role.Leave at, last_as fall c i a at) ∷ [])
+leave_split :
+    (form : Form) (d : ℕ) (fall : ℕ → List Item) (e : Option Ins) (a at : ℕ) → leave_parts form d fall (end_of e) a at ≡ before_parts form d e a at ++ ((role.Leave at, last_items d fall e a at) ∷ [])
+leave_split form d fall None a at = refl
+leave_split form d fall (Some i) a at = by (class_of i.kind) where
+  by : (c : Class) → leave_as_parts form d fall c i a at ≡ cond (is_end_as c) (ecall_parts form d a at) [] ++ ((role.Leave at, last_as d fall c i a at) ∷ [])
   by class.End = refl
   by c = refl
+
+-- those of a block, whose end stands there
+pub block_split :
+    (w : LeanWeaver) (b : CodeBlock) (at : ℕ) → at ≡ b.start + 4 * length b.body → IsOwn w b
+    → (parts_of w).leave (end_of b.end) (b.start + 4 * length b.body)
+    ≡ before_parts (form w) w.distance b.end b.start at ++ ((role.Leave at, last_items w.distance (fall_words (begins_at (blocks_in w))) b.end b.start at) ∷ [])
+block_split w b at same own =
+    let fall = fall_words (begins_at (blocks_in w)) in
+    ap (λ a. leave_parts (form w) w.distance fall (end_of b.end) a (b.start + 4 * length b.body)) own.starts
+    ∙ ap (leave_parts (form w) w.distance fall (end_of b.end) b.start) (sym same)
+    ∙ leave_split (form w) w.distance fall b.end b.start at

@@ -4,5 +4,5 @@ mod Counting
 mod Finding
 mod Forms
 mod Leaves
+mod Pieces
 mod Owned
-mod Roles

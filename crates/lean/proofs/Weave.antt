@@ -22,7 +22,6 @@ pub mod Lands
 pub mod Promise
 pub mod Landed
 pub mod Drift
-pub mod Rooted
 pub mod Strays
 pub mod Unmarked
 pub mod Blocks

@@ -1,9 +1,10 @@
 -- The lean form that a weaver makes, and the blocks that it is for.
-use Rattle.std.specs.Prelude.{◌≡◌, ℕ, ◌+◌, ◌*◌, false, List, length, map}
+use Rattle.std.specs.Prelude.{◌≡◌, ℕ, ◌+◌, ◌*◌, true, false, List, length, map}
 use Rattle.qed_model.specs.Weave.Blocks.{begins_at}
 use Rattle.qed_model.specs.Weave.Bounds.{cost_of}
 use Rattle.qed_model.specs.Weave.Code.{Sequences}
 use Rattle.qed_model.specs.Weave.Parts.{Parts}
+use Rattle.qed_model.specs.Weave.LeanBounds.{bounds_of}
 use Rattle.qed_model.specs.Weave.LeanParts.{worded_parts}
 use Rattle.qed_model.specs.Weave.Placed.{leads_to}
 use Rattle.qed_model.specs.Weave.Sequences.{Form, Block}
@@ -12,6 +13,7 @@ use Rattle.qed_model.specs.Weave.LeanCode.{start_at, Lean, worded}
 use Rattle.block_split.specs.declared.block.CodeBlock.{CodeBlock}
 use Rattle.block_split.specs.Listed.{block_of, end_of}
 use Rattle.plc_rounds.specs.Spans.{spans_of}
+use Rattle.weave.specs.Kind.{CodeKind}
 use Rattle.lean.specs.declared.weaver.LeanWeaver.{LeanWeaver}
 use Rattle.lean.specs.Counts.{ticks_in, most_in}
 use Rattle.lean.specs.Leaves.{Turns}
@@ -19,6 +21,9 @@ use Rattle.lean.specs.Leaves.{Turns}
 -- ---- of a weaver
 abbrev pub form : LeanWeaver → Form
 form w = record { spans = spans_of w.visits.span; round = w.visits.round; far = false; sweep = w.sweeps; mirror = mirror_of w.diverse; cost = cost_of w.diverse }
+
+abbrev pub kind : LeanWeaver → CodeKind
+kind w = record { far = false; table = true; bounds = λ s. bounds_of s w.every }
 
 abbrev pub blocks_in : LeanWeaver → List Block
 blocks_in w = map block_of w.blocks.now
@@ -30,6 +35,7 @@ lean w = record {
   inst_max = 0;
   diverse = w.diverse;
   land = w.land;
+  distance = w.distance;
   check = w.check;
   ticks = ticks_in w.counts;
   most = most_in w.counts;

@@ -1,16 +1,16 @@
 -- The parts of leaves, and the addresses to which the signature turns.
-use Rattle.std.specs.Prelude.{ℕ, ◌+◌, ◌-◌, ◌%◌, ◌^◌, Bool, cond, Option, Some, None, List, [], ◌∷◌, ◌++◌, pos, neg_ℤ, ◌≤ℤ◌}
+use Rattle.std.specs.Prelude.{ℕ, ◌+◌, ◌-◌, ◌%◌, ◌^◌, Bool, false, cond, Option, Some, None, List, [], ◌∷◌, ◌++◌, pos, neg_ℤ, ◌≤ℤ◌}
 use Rattle.rv_isa.specs.declared.class.Class.TheVariants as class
 use Rattle.qed_model.specs.declared.item.Item.{Item}
-use Rattle.qed_model.specs.declared.item.Item.TheVariants.{Plain, Constant}
-use Rattle.machine.specs.Step.{target, Ins, Class, class_of, ins, Add, Addi, Andi, Sub}
+use Rattle.qed_model.specs.declared.item.Item.TheVariants.{Plain}
+use Rattle.machine.specs.Step.{target, Ins, Class, class_of, ins, Addi, Andi}
 use Rattle.machine.specs.Offsets.{distance_between}
 use Rattle.qed_model.specs.declared.role.Role.{Role}
 use Rattle.qed_model.specs.declared.role.Role.TheVariants as role
 use Rattle.weave.specs.Leaves.{is_end}
-use Rattle.qed_model.specs.Weave.Sequences.{Form, End, Falls, Stops, sweep, compare, before_end, SIGNATURE, TEMPORARY, pair}
-use Rattle.qed_model.specs.Weave.Lean.{turn, goes, check_sign, leave_as}
-pub use Rattle.flow_tracking.specs.Leaving.{aim_of}
+use Rattle.qed_model.specs.Weave.Placed.{sum_of_sizes}
+use Rattle.qed_model.specs.Weave.Sequences.{Form, End, Falls, Stops, sweep, compare, before_end, guard, links, check_sign, TEMPORARY}
+use Rattle.qed_model.specs.Weave.Lean.{turn, opposite, taken, called, check_distance, look_up, look_again, leave_as}
 
 -- ---- parts
 -- what stands before an ECALL besides, with the sweep
@@ -21,29 +21,36 @@ before sweeps spans = cond sweeps (sweep spans ++ compare) []
 abbrev pub falls : (ℕ → List Item) → ℕ → ℕ → List Item
 falls fall a t = turn a t ++ fall t
 
--- both ways of a branch
-abbrev pub ways : (ℕ → List Item) → ℕ → ℕ → ℕ → List Item
-ways fall a t n = goes a t ++ falls fall a n
+-- the branch over the way that is taken, and that way
+abbrev pub over : Ins → ℕ → ℕ → List Item
+over i a t = Plain (ins (opposite i.kind) 0 i.rs1 i.rs2 (pos (4 + sum_of_sizes false (taken i a t)))) ∷ taken i a t
 
--- a JALR's turn of the signature by the pair
-abbrev pub leap_sign : Ins → ℕ → List Item
-leap_sign i a =
-    Plain (ins Add SIGNATURE SIGNATURE (pair i.rs1) (pos 0)) ∷ Plain (ins Addi SIGNATURE SIGNATURE 0 i.imm) ∷ Plain (ins Andi SIGNATURE SIGNATURE 0 (neg_ℤ (pos 2))) ∷ Constant TEMPORARY a ∷ Plain (ins Sub SIGNATURE SIGNATURE TEMPORARY (pos 0)) ∷ []
+-- the jump of a JALR to the target in x30, which has to be the signature
+abbrev pub leap : ℕ → Ins → ℕ → List Item
+leap d i at = called ++ (links i at ++ (look_up TEMPORARY ++ look_again d))
+
+-- the target by the original, and the jump there
+abbrev pub aim : ℕ → Ins → ℕ → List Item
+aim d i at = Plain (ins Addi TEMPORARY i.rs1 0 i.imm) ∷ Plain (ins Andi TEMPORARY TEMPORARY 0 (neg_ℤ (pos 2))) ∷ leap d i at
+
+-- a JALR from the test of the distance on: the guard of the original
+abbrev pub guarded_leap : ℕ → Ins → ℕ → List Item
+guarded_leap d i at = check_distance d ++ (guard i.rs1 ++ aim d i at)
 
 -- ---- the leave in two: what stands before an ECALL, and the rest
-abbrev pub ecall_parts : Form → ℕ → List (Role × List Item)
-ecall_parts form a = (role.Sweep, compare) ∷ (role.Sign a, check_sign a) ∷ (role.Sweep, before_end form) ∷ []
+abbrev pub ecall_parts : Form → ℕ → ℕ → ℕ → List (Role × List Item)
+ecall_parts form d a at = (role.Sweep, compare) ∷ (role.Leave at, check_distance d) ∷ (role.Sign a, check_sign a) ∷ (role.Sweep, before_end form) ∷ []
 
-abbrev pub before_parts : Form → Option Ins → ℕ → List (Role × List Item)
-before_parts form end a = cond (is_end end) (ecall_parts form a) []
+abbrev pub before_parts : Form → ℕ → Option Ins → ℕ → ℕ → List (Role × List Item)
+before_parts form d end a at = cond (is_end end) (ecall_parts form d a at) []
 
-abbrev pub last_as : (ℕ → List Item) → Class → Ins → ℕ → ℕ → List Item
-last_as fall class.End i a at = Plain i ∷ []
-last_as fall c i a at = leave_as [] fall c i a at
+abbrev pub last_as : ℕ → (ℕ → List Item) → Class → Ins → ℕ → ℕ → List Item
+last_as d fall class.End i a at = Plain i ∷ []
+last_as d fall c i a at = leave_as d [] fall c i a at
 
-abbrev pub last_items : (ℕ → List Item) → Option Ins → ℕ → ℕ → List Item
-last_items fall None a at = falls fall a at
-last_items fall (Some i) a at = last_as fall (class_of i.kind) i a at
+abbrev pub last_items : ℕ → (ℕ → List Item) → Option Ins → ℕ → ℕ → List Item
+last_items d fall None a at = falls fall a at
+last_items d fall (Some i) a at = last_as d fall (class_of i.kind) i a at
 
 -- ---- where the signature turns
 -- the sum with 2048 is below 2^63

@@ -2,7 +2,6 @@ pub mod Ticked
 pub mod Strayed
 pub mod Woven
 pub mod Tests
-pub mod Steps
 pub mod Leaves
 pub mod Counts
 pub mod Form

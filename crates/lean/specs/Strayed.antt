@@ -1,21 +1,20 @@
--- What the lean form promises of a jump that goes astray: where the code of a block runs under the signature of another one, the run is over soon.
+-- What the lean form promises of a jump that goes astray: where the code of a block runs under another signature, the run is over soon.
 use Rattle.std.specs.Prelude.{◌≡◌, ℕ, ◌+◌, ◌*◌, ◌/◌, ◌%◌, ◌^◌, ◌≤◌, ◌⊎◌, Bool, true, false, List}
 use Rattle.tests.specs.Admission.Leaders.{is_indirect}
 use Rattle.machine.specs.Members.{Among}
 use Rattle.machine.specs.declared.outcome.Outcome.{Outcome}
 use Rattle.machine.specs.declared.outcome.Outcome.TheVariants.{Going, Fired}
 use Rattle.machine.specs.Program.{Program, AreStartRegs}
-use Rattle.machine.specs.Step.{State, reg, fetched_at, run, class_of}
+use Rattle.machine.specs.Step.{State, reg, run, class_of}
 use Rattle.qed_model.specs.Promise.Kept.{is_trapped, after_output}
 use Rattle.qed_model.specs.Promise.Landed.{placed_at}
 use Rattle.qed_model.specs.Weave.Blocks.{begins_at, ElfFile, Options}
 use Rattle.qed_model.specs.Weave.Code.{Sequences, pieces_of}
 use Rattle.qed_model.specs.Weave.Forms.{form_of}
-use Rattle.qed_model.specs.Weave.Lean.{look_up}
 use Rattle.qed_model.specs.Weave.LeanCode.{lean_items, lean_of, worded}
 use Rattle.tests.specs.Admission.Places.{base_of, image_of, code_place}
 use Rattle.qed_model.specs.Weave.Placed.{sum_of_sizes, entry_of}
-use Rattle.qed_model.specs.Weave.Sequences.{Reads, End, Falls, Stops, Block, SIGNATURE, TEMPORARY}
+use Rattle.qed_model.specs.Weave.Sequences.{End, Falls, Stops, Block, SIGNATURE}
 
 -- ---- where a jump leads
 -- a word of the pieces of a block, or the first one behind them
@@ -29,42 +28,32 @@ abbrev pub by_register : End → Bool
 by_register Falls = false
 by_register (Stops i) = is_indirect (class_of i.kind)
 
+-- a signature that is not the address of a block with such an end. A block that goes on where a register leads clears the lowest bit of a sum with it, so there
+-- it is not the address below or above either
+pub record IsOther (e : End) (a x : ℕ) : Type 0 where
+  pub apart : x ≡ a → ⊥
+  pub below : by_register e ≡ true → (x + 1) % 2 ^ 64 ≡ a → ⊥
+  pub above : by_register e ≡ true → x ≡ a + 1 → ⊥
+
 -- ---- what follows
 abbrev pub IsOver : Outcome → Type 0
 IsOver o = (o ≡ Fired) ⊎ (is_trapped o ≡ true)
 
--- within so many steps a check has fired, or a step has trapped
+-- within `most` steps a check has fired, or a step has trapped
 pub record Stopped (most : ℕ) (s : State) : Type 0 where
   pub steps : ℕ
   pub within : steps ≤ most
   pub over : IsOver (run s steps).outcome
 
--- an address is looked up next that has no entry
-pub record IsLost (blocks : List Block) (s : State) : Type 0 where
-  pub looks : Reads false (fetched_at s.memory s.ranges) (λ a. 0) s.pc look_up
-  pub nowhere : begins_at blocks (reg s TEMPORARY) ≡ false
-
--- within so many steps one is
-pub record Lost (blocks : List Block) (most : ℕ) (s : State) : Type 0 where
-  pub steps : ℕ
-  pub within : steps ≤ most
-  pub lost : IsLost blocks (run s steps)
-
--- as many steps as the pieces of a block have words, and 32
+-- as many steps as the pieces of a block have words, and 19
 abbrev pub steps_in : Sequences → Block → ℕ
-steps_in s b = sum_of_sizes false (pieces_of s b.body b.start) / 4 + 32
+steps_in s b = sum_of_sizes false (pieces_of s b.body b.start) / 4 + 19
 
--- for any registers of the output's start: from any state of the run, the same state inside of a block, where the last 32 bits of the signature are
--- not those of the block's address, is over within so many steps; inside of a block that goes on where a register leads this holds behind what runs
--- first and of an even signature, or an address is looked up that has no entry
+-- for any registers of the output's start: from any state of the run, the same state inside of a block under another signature is over within these steps
 pub record Strayed (g : Program) (s : Sequences) (entry : ℕ → ℕ) (blocks : List Block) : Type 0 where
   pub stops :
-      (regs : List ℕ) (t q : ℕ) (b : Block) → AreStartRegs regs → (after_output g regs t).outcome ≡ Going → Among b blocks → by_register b.end ≡ false → IsInside s entry b q
-      → (reg (after_output g regs t) SIGNATURE % 2 ^ 32 ≡ b.start % 2 ^ 32 → ⊥) → Stopped (steps_in s b) (placed_at q (after_output g regs t))
-  pub leads :
-      (regs : List ℕ) (t q : ℕ) (b : Block) → AreStartRegs regs → 31 ≤ t → (after_output g regs t).outcome ≡ Going → Among b blocks → by_register b.end ≡ true → IsInside s entry b q
-      → reg (after_output g regs t) SIGNATURE % 2 ≡ 0 → (reg (after_output g regs t) SIGNATURE % 2 ^ 32 ≡ b.start % 2 ^ 32 → ⊥)
-      → Stopped (steps_in s b) (placed_at q (after_output g regs t)) ⊎ Lost blocks (steps_in s b) (placed_at q (after_output g regs t))
+      (regs : List ℕ) (t q : ℕ) (b : Block) → AreStartRegs regs → (after_output g regs t).outcome ≡ Going → Among b blocks → IsInside s entry b q → IsOther b.end b.start (reg (after_output g regs t) SIGNATURE)
+      → Stopped (steps_in s b) (placed_at q (after_output g regs t))
 
 -- ---- of a file in the lean form
 -- where its entries are, and the sequences of its code

@@ -84,7 +84,7 @@ LeanTestsFaults =
 abbrev pub LeanTestsLanded : Type 0
 LeanTestsLanded =
     (f : ElfFile) (o : Options) (every : ℕ) (blocks : List Block) (words : List ℕ) → IsLeanTest f o every blocks words → o.land ≡ true → (reached : ℕ → Bool) → AreReached f o reached
-    → Landed 6 (loaded_file f) (loaded_file (file_read (lean_file f o every blocks words))) reached (rows_from false (code_place o.half (image_of f)) (lean_items f o every blocks))
+    → Landed 4 (loaded_file f) (loaded_file (file_read (lean_file f o every blocks words))) reached (rows_from false (code_place o.half (image_of f)) (lean_items f o every blocks))
 
 -- and where the code of a block runs under the signature of another one, the run is over soon
 abbrev pub LeanTestsStrayed : Type 0

@@ -3,12 +3,19 @@ use Rattle.std.specs.Prelude.{ℕ, ◌+◌, ◌-◌, ◌*◌, ◌/◌, ◌%◌, 
 use Rattle.qed_model.specs.Weave.Lean.{first_word}
 use Rattle.weave_core.specs.World.{World, is_cursor, CURSOR, SIGNATURE, State, reg}
 
--- the offset in a signature
-abbrev pub offset_of : ℕ → ℕ → ℕ
-offset_of a sign = (sign + (2 ^ 64 - a)) % 2 ^ 64 / 2 ^ 32
+-- the offset of the next data word from the first, and the count, in x15
+abbrev pub offset_of : ℕ → ℕ
+offset_of x = x / 2 ^ 12
 
--- from the entry of a block at a to its leave: so many steps are left at most, one at least, and the signature is that of a, with the offset of a
--- data word where there is one
+abbrev pub count_of : ℕ → ℕ
+count_of x = x % 2 ^ 12
+
+-- both together
+abbrev pub counted : ℕ → ℕ → ℕ
+counted offset count = offset * 2 ^ 12 + count
+
+-- from the entry of a block at a to its leave the count is at most 2047, and at least what the check sets it to; the offset is that of a data word, where
+-- there is one; and the signature is a
 abbrev pub is_ticked_at : ℕ → World → State → ℕ → Bool
 is_ticked_at every w u a =
-    ((nat_le (2 ^ 64 - every) (reg u CURSOR) && nat_lt (reg u CURSOR) (2 ^ 64)) && (reg u SIGNATURE == (a + offset_of a (reg u SIGNATURE) * 2 ^ 32) % 2 ^ 64)) && is_cursor w.form.spans (first_word w.base w.form.spans + offset_of a (reg u SIGNATURE))
+    ((nat_le (2047 - every) (count_of (reg u CURSOR)) && nat_le (count_of (reg u CURSOR)) 2047) && (nat_lt (reg u CURSOR) (2 ^ 44) && (reg u SIGNATURE == a))) && is_cursor w.form.spans (first_word w.base w.form.spans + offset_of (reg u CURSOR))

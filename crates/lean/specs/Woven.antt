@@ -2,7 +2,7 @@
 use Rattle.std.specs.Prelude.{◌≡◌, ℕ, ◌+◌, ◌*◌, ◌%◌, ◌^◌, ◌<◌, ◌≤◌, Bool, true, false, cond, ◌==◌, ◌&&◌, nat_le, List, [], ◌∷◌, length}
 use Rattle.rv_isa.specs.declared.class.Class.TheVariants as class
 use Rattle.tests.specs.Admission.DataRanges.{word_count}
-use Rattle.qed_model.specs.Weave.Bounds.{end_bound, cost_of, entry_steps}
+use Rattle.qed_model.specs.Weave.Bounds.{end_bound}
 use Rattle.qed_model.specs.Weave.Pieces.{is_run}
 use Rattle.qed_model.specs.Weave.Placed.{sum_of_sizes}
 use Rattle.qed_model.specs.Weave.Sequences.{Reads, End, Falls, Stops, Block}
@@ -15,9 +15,9 @@ use Rattle.qed_model.specs.Promise.Caught.{Caught}
 use Rattle.qed_model.specs.Promise.Clean.{Clean}
 use Rattle.qed_model.specs.Promise.Closed.{is_branch}
 use Rattle.qed_model.specs.declared.bounds.Bounds.{Bounds}
-use Rattle.qed_model.specs.Weave.Lean.{call_at, check, begin}
+use Rattle.qed_model.specs.Weave.Lean.{check, begin}
 use Rattle.qed_model.specs.Weave.LeanCode.{Lean, fall_to, sequences, worded, block_steps, end_at, leads_on}
-use Rattle.qed_model.specs.Weave.LeanBounds.{check_bound, period, register_bound, word_bound}
+use Rattle.qed_model.specs.Weave.LeanBounds.{cost_of, entry_steps, call_steps, check_bound, period, register_bound, word_bound}
 use Rattle.weave_core.specs.Describes.{Describes}
 use Rattle.weave_core.specs.WeavePromise.{AllBlocksOf, OnlyCode}
 use Rattle.weave_core.specs.Leaving.{sweep_cost}
@@ -27,7 +27,7 @@ use Rattle.weave_core.specs.Weave.{Weave}
 use Rattle.lean.specs.Strayed.{Strayed}
 use Rattle.lean.specs.Ticked.{is_ticked_at}
 
--- the most steps of the check, with the look-up behind it
+-- the most steps of the check, with the look-ups behind it
 abbrev pub check_steps : World → ℕ
 check_steps w = check_bound (word_count w.form.spans) (length w.form.spans) w.form.round
 
@@ -35,16 +35,16 @@ check_steps w = check_bound (word_count w.form.spans) (length w.form.spans) w.fo
 abbrev pub swept_steps : World → ℕ
 swept_steps w = end_bound w.form.sweep (length w.form.spans) (word_count w.form.spans)
 
--- the weave: a tick may call the check, and then the entry is made once more
+-- the weave: a tick may go to the check, and then the entry is made once more
 abbrev pub weave_of : World → Lean → (ℕ → Bool) → Weave
 weave_of w l leader = record {
   code = sequences w.form w.entry l (fall_to leader) begin;
   fits = λ is. is_run is && nat_le (length is) l.inst_max;
   first_steps = 31;
-  enter_steps = 1 + 2 * entry_steps l.land + check_steps w;
+  enter_steps = 2 * entry_steps l.land + (call_steps l.land + check_steps w);
   piece_steps = cost_of l.diverse * l.inst_max;
   compare_steps = 0;
-  leave_steps = 19;
+  leave_steps = 27;
   end_steps = swept_steps w;
   sweeps = w.form.sweep;
   sweep_steps = sweep_cost w.form.spans;
@@ -58,16 +58,15 @@ weave_of w l leader = record {
 pub record LeanIn (w : World) (l : Lean) (leader : ℕ → Bool) : Type 0 where
   pub near : w.form.far ≡ false
   pub small : w.distance ≤ 2 ^ 32
-  pub some : 1 ≤ l.every
-  pub few : l.every ≤ 2048
-  pub check : Reads w.form.far w.code w.entry l.check (check w.base (call_at l.land) l.every w.form.round w.form.spans)
+  pub few : l.every ≤ 2047
+  pub apart : l.distance ≡ w.distance
+  pub check : Reads w.form.far w.code w.entry l.check (check w.base w.distance l.every w.form.round w.form.spans)
   pub ticks : (a : ℕ) → leader a ≡ true → l.most a < l.every
   pub entered : (at : ℕ) (i : Ins) → w.source at ≡ Known i → class_of i.kind ≡ class.JumpReg → (a : ℕ) → leader a ≡ true → w.reached a ≡ true → l.ticks a ≡ true
   pub known : (a : ℕ) → leader a ≡ true → IsEntryOf w a
   pub codes : (a : ℕ) → leader a ≡ true → (i : Ins) × (w.source a ≡ Known i)
   pub grain : (a : ℕ) → leader a ≡ true → a % 2 ≡ 0
   pub table : (a : ℕ) → leader a ≡ true → TableAt w a
-  pub within : (a : ℕ) → leader a ≡ true → a < w.base + 2 ^ 32
 
 -- ---- which blocks fall to the next
 -- a block that falls, or ends in a branch, goes on behind its end
@@ -115,7 +114,7 @@ pub record LeanPlan (f g : Program) (w : World) (l : Lean) (blocks : List Block)
 -- ---- the laws
 -- a plan keeps the values
 abbrev pub LeanKept : Type 0
-LeanKept = (f g : Program) (w : World) (l : Lean) (blocks : List Block) → LeanPlan f g w l blocks → Kept f g w.reached (31 + swept_steps w) (20 + 2 * entry_steps l.land + check_steps w + cost_of l.diverse * l.inst_max)
+LeanKept = (f g : Program) (w : World) (l : Lean) (blocks : List Block) → LeanPlan f g w l blocks → Kept f g w.reached (31 + swept_steps w) (27 + call_steps l.land + 2 * entry_steps l.land + check_steps w + cost_of l.diverse * l.inst_max)
 
 pub record IsBoundsOf (w : World) (l : Lean) (bounds : Bounds) : Type 0 where
   pub register : bounds.register ≡ register_bound l.land (swept_steps w) (period l.land (check_steps w) l.every)
@@ -129,7 +128,7 @@ LeanCaught = (f g : Program) (w : World) (l : Lean) (blocks : List Block) (bound
 abbrev pub LeanLanded : Type 0
 LeanLanded =
     (f g : Program) (w : World) (l : Lean) (blocks : List Block) (entries : List EntryRow) → LeanPlan f g w l blocks → l.land ≡ true
-    → ((a e : ℕ) → IsEntry entries a e → (begins_at blocks a ≡ true) × (e ≡ w.entry a)) → Landed 6 f g w.reached entries
+    → ((a e : ℕ) → IsEntry entries a e → (begins_at blocks a ≡ true) × (e ≡ w.entry a)) → Landed 4 f g w.reached entries
 
 -- and where the code of a block runs under the signature of another one, the run is over soon
 abbrev pub LeanStrayed : Type 0

@@ -1,5 +1,5 @@
 //! What runs first, before the check.
-ghost use Rattle.std.specs.Prelude.{◌≡◌, ◌^◌, ◌<◌, [], ◌∷◌, ◌++◌, OnOk, pos, neg_ℤ};
+ghost use Rattle.std.specs.Prelude.{◌≡◌, ◌^◌, ◌<◌, [], ◌∷◌, ◌++◌, OnOk, pos};
 ghost use Rattle.rv_isa.specs.declared.profile.TheConstants.{DISTANCE, CURSOR, SIGNATURE};
 ghost use Rattle.rv_isa.specs.declared.kind.Kind.TheVariants.{Addi, Lui};
 ghost use Rattle.qed_model.specs.declared.item.Item.TheVariants.{Plain, Constant, Go};
@@ -16,10 +16,10 @@ use weave::put_zeros;
 /// The bytes of what runs before the check.
 pub(crate) const BEGIN_BYTES: u64 = 124;
 
-/// The distance of the halves, the signature of the test's entry, one step that is left, and the jump there.
+/// The distance of the halves, the signature of the test's entry, a count that the first tick takes past 2047, and the jump there.
 fn put_start(distance: u64, entry: u64, out: &mut Emit) -> Result<(), AllocError>
     requires { distance < 2 ^ 63 }
-    ensures { OnOk result (out.new ≡ out.old ++ Plain (ins Lui DISTANCE 0 0 (pos distance)) ∷ Constant SIGNATURE entry ∷ Plain (ins Addi CURSOR 0 0 (neg_ℤ (pos 1))) ∷ Go entry ∷ []) }
+    ensures { OnOk result (out.new ≡ out.old ++ Plain (ins Lui DISTANCE 0 0 (pos distance)) ∷ Constant SIGNATURE entry ∷ Plain (ins Addi CURSOR 0 0 (pos 2047)) ∷ Go entry ∷ []) }
 {
     let zero = register(0);
     out.put(&[
@@ -31,14 +31,14 @@ fn put_start(distance: u64, entry: u64, out: &mut Emit) -> Result<(), AllocError
             distance.cast_signed(),
         ),
         Item::Constant(register(SIGNATURE), entry),
-        plain(Kind::Addi, register(CURSOR), zero, zero, -1),
+        plain(Kind::Addi, register(CURSOR), zero, zero, 2047),
         Item::Go(entry),
     ])?;
     Ok(())
 }
 
 /// All registers of both halves are 0, x14 is the distance of the halves, and the test begins at its entry, with the first data word
-/// and one step left.
+/// and a count of 2047.
 pub(crate) fn put_begin(distance: u64, entry: u64, out: &mut Emit) -> Result<(), AllocError>
     requires { distance < 2 ^ 63 }
     ensures { OnOk result (out.new ≡ out.old ++ begin distance entry) }

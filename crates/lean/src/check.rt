@@ -1,7 +1,8 @@
 //! The check, one for all of the code.
 ghost use Rattle.std.specs.Prelude.{◌≡◌, ◌^◌, ◌≤◌, ◌<◌, ◌++◌, OnOk};
+ghost use Rattle.rv_isa.specs.declared.profile.TheConstants.{SIGNATURE};
 ghost use Rattle.qed_model.specs.Weave.Sequences.{compare};
-ghost use Rattle.qed_model.specs.Weave.Lean.{first_word as first_word_of, parted, called, begun, done, look_up};
+ghost use Rattle.qed_model.specs.Weave.Lean.{first_word as first_word_of, called, check_distance, begun, done, look_up, look_again};
 ghost use Rattle.plc_rounds.specs.Spans.{spans_of};
 
 use eddi_dup::CompareAll;
@@ -19,44 +20,29 @@ pub(crate) fn first_word(base: u64, span: &[Range]) -> u64
     if span.is_empty() { base } else { span[0].start }
 }
 
-/// Takes the signature apart.
-fn put_parted(base: u64, out: &mut Emit) -> Result<(), AllocError>
-    ensures { OnOk result (out.new ≡ out.old ++ parted base) }
+/// Fires where the signature is not the address in x30.
+pub(crate) fn put_called(out: &mut Emit) -> Result<(), AllocError>
+    ensures { OnOk result (out.new ≡ out.old ++ called) }
 {
     let zero = register(0);
-    let (address, sign, begin) = (register(CURSOR), register(SIGNATURE), register(TEMPORARY));
+    let (sign, address) = (register(SIGNATURE), register(TEMPORARY));
     out.put(&[
-        Item::Constant(begin, base),
-        plain(Kind::Sub, address, sign, begin, 0),
-        plain(Kind::Slli, address, address, zero, 32),
-        plain(Kind::Srli, address, address, zero, 32),
-        plain(Kind::Add, address, address, begin, 0),
-        plain(Kind::Sub, sign, sign, address, 0),
-        plain(Kind::Srli, sign, sign, zero, 32),
+        plain(Kind::Beq, zero, sign, address, 8),
+        plain(Kind::Ebreak, zero, zero, zero, 0),
     ])?;
     Ok(())
 }
 
-/// Fires where the link is not that of a call so many bytes behind the entry of the address.
-fn put_called(call: u64, out: &mut Emit) -> Result<(), AllocError>
-    requires { call ≤ 32 }
-    ensures { OnOk result (out.new ≡ out.old ++ called call) }
+/// Fires where x14 is not the distance of the halves.
+pub(crate) fn put_check_distance(distance: u64, out: &mut Emit) -> Result<(), AllocError>
+    requires { distance < 2 ^ 63 }
+    ensures { OnOk result (out.new ≡ out.old ++ check_distance distance) }
 {
     let zero = register(0);
-    let (half, address, place, link) = (
-        register(DISTANCE),
-        register(CURSOR),
-        register(TEMPORARY),
-        register(SPARE),
-    );
-    let past = (call + 4).cast_signed();
+    let (half, right) = (register(DISTANCE), register(TEMPORARY));
     out.put(&[
-        plain(Kind::Add, place, address, half, 0),
-        plain(Kind::Add, place, place, half, 0),
-        plain(Kind::Sub, link, link, place, 0),
-        plain(Kind::Lw, place, place, zero, 0),
-        plain(Kind::Addi, place, place, zero, past),
-        plain(Kind::Beq, zero, place, link, 8),
+        plain(Kind::Lui, right, zero, zero, distance.cast_signed()),
+        plain(Kind::Beq, zero, half, right, 8),
         plain(Kind::Ebreak, zero, zero, zero, 0),
     ])?;
     Ok(())
@@ -70,66 +56,73 @@ pub(crate) fn put_compare(out: &mut Emit) -> Result<(), AllocError>
     Ok(())
 }
 
-/// Gives the address of the next data word.
+/// Gives x15 the address of the next data word.
 fn put_begun(first: u64, out: &mut Emit) -> Result<(), AllocError>
     ensures { OnOk result (out.new ≡ out.old ++ begun first) }
 {
-    let zero = register(0);
-    let (cursor, sign, address) = (register(CURSOR), register(SIGNATURE), register(TEMPORARY));
+    let (cursor, address) = (register(CURSOR), register(TEMPORARY));
     out.put(&[
-        plain(Kind::Addi, address, cursor, zero, 0),
-        Item::Constant(cursor, first),
-        plain(Kind::Add, cursor, cursor, sign, 0),
-        plain(Kind::Addi, sign, address, zero, 0),
+        plain(Kind::Srli, cursor, cursor, register(0), 12),
+        Item::Constant(address, first),
+        plain(Kind::Add, cursor, cursor, address, 0),
     ])?;
     Ok(())
 }
 
-/// Puts the signature together, and sets the counter.
-fn put_done(first: u64, every: u64, out: &mut Emit) -> Result<(), AllocError>
-    requires { every ≤ 2048 }
+/// Gives x15 the offset of the next data word again, and begins the count.
+pub(crate) fn put_done(first: u64, every: u64, out: &mut Emit) -> Result<(), AllocError>
+    requires { every ≤ 2047 }
     ensures { OnOk result (out.new ≡ out.old ++ done first every) }
 {
     let zero = register(0);
-    let (count, sign, address) = (register(CURSOR), register(SIGNATURE), register(TEMPORARY));
+    let (count, address) = (register(CURSOR), register(TEMPORARY));
     out.put(&[
         Item::Constant(address, first),
         plain(Kind::Sub, count, count, address, 0),
-        plain(Kind::Slli, count, count, zero, 32),
-        plain(Kind::Addi, address, sign, zero, 0),
-        plain(Kind::Add, sign, sign, count, 0),
-        plain(Kind::Addi, count, zero, zero, -every.cast_signed()),
+        plain(Kind::Slli, count, count, zero, 12),
+        plain(Kind::Addi, count, count, zero, (2047 - every).cast_signed()),
     ])?;
     Ok(())
 }
 
-/// The link, and what stands behind it before the visits: the comparison, and the address of the next data word.
-fn put_linked(call: u64, first: u64, out: &mut Emit) -> Result<(), AllocError>
-    requires { call ≤ 32 }
-    ensures { OnOk result (out.new ≡ out.old ++ (called call ++ (compare ++ begun first))) }
+/// Looks the entry of the signature up once more, and goes there; fires where it is not the one in x30. x14 gets the distance of the
+/// halves again.
+pub(crate) fn put_look_again(distance: u64, out: &mut Emit) -> Result<(), AllocError>
+    requires { distance < 2 ^ 63 }
+    ensures { OnOk result (out.new ≡ out.old ++ look_again distance) }
 {
-    put_called(call, out)?;
+    let (zero, half) = (register(0), register(DISTANCE));
+    let (entry, place) = (register(TEMPORARY), register(SPARE));
+    out.put(&[
+        plain(Kind::Add, place, half, half, 0),
+        plain(Kind::Add, place, place, register(SIGNATURE), 0),
+        plain(Kind::Lw, half, place, zero, 0),
+        plain(Kind::Add, place, place, half, 0),
+        plain(Kind::Lui, half, zero, zero, distance.cast_signed()),
+        plain(Kind::Beq, zero, entry, place, 8),
+        plain(Kind::Ebreak, zero, zero, zero, 0),
+        plain(Kind::Jalr, zero, entry, zero, 0),
+    ])?;
+    Ok(())
+}
+
+/// The check up to the visits, where the halves are so far apart, and the first data word stands at an address.
+pub(crate) fn put_front(distance: u64, first: u64, out: &mut Emit) -> Result<(), AllocError>
+    requires { distance < 2 ^ 63 }
+    ensures { OnOk result (out.new ≡ out.old ++ (called ++ (check_distance distance ++ (compare ++ begun first)))) }
+{
+    put_called(out)?;
+    put_check_distance(distance, out)?;
     put_compare(out)?;
     put_begun(first, out)?;
     Ok(())
 }
 
-/// The check up to the visits, of an input that begins at `base`. Ticks call it `call` bytes behind the entries.
-pub(crate) fn put_front(base: u64, call: u64, first: u64, out: &mut Emit) -> Result<(), AllocError>
-    requires { call ≤ 32 }
-    ensures { OnOk result (out.new ≡ out.old ++ (parted base ++ (called call ++ (compare ++ begun first)))) }
+/// The look-ups of the entry of the signature, and the way back to it.
+pub(crate) fn put_look_ups(distance: u64, out: &mut Emit) -> Result<(), AllocError>
+    requires { distance < 2 ^ 63 }
+    ensures { OnOk result (out.new ≡ out.old ++ (look_up SIGNATURE ++ look_again distance)) }
 {
-    put_parted(base, out)?;
-    put_linked(call, first, out)?;
-    Ok(())
-}
-
-/// The check behind the visits, which sets the counter to less `every`, and goes back to the entry.
-pub(crate) fn put_back(first: u64, every: u64, out: &mut Emit) -> Result<(), AllocError>
-    requires { every ≤ 2048 }
-    ensures { OnOk result (out.new ≡ out.old ++ (done first every ++ look_up)) }
-{
-    put_done(first, every, out)?;
-    put_look_up(out)?;
-    Ok(())
+    put_look_up(register(SIGNATURE), out)?;
+    put_look_again(distance, out)
 }

@@ -1,22 +1,22 @@
 //! The words of the lean form.
-ghost use Rattle.std.specs.Prelude.{◌≡◌, ◌+◌, ◌^◌, ◌<◌, ℕ, IfOk, IfErr, false, map};
+ghost use Rattle.std.specs.Prelude.{◌≡◌, ◌+◌, ◌^◌, ◌<◌, ℕ, IfOk, IfErr, map};
 ghost use Rattle.elf_types.specs.declared.file.ElfFile.{ElfFile};
 ghost use Rattle.block_split.specs.Listed.{block_of};
-ghost use Rattle.qed_model.specs.Weave.LeanParts.{lean_parts};
-ghost use Rattle.qed_model.specs.Weave.Parts.{role_rows};
 ghost use Rattle.qed_model.specs.Weave.Placed.{EntriesAscend, leads_to};
-ghost use Rattle.lean.specs.Code.{code_with, parts_with, IsLeanCut, IsLeanCodeOf, HasCause};
-ghost use Rattle.lean.specs.Form.{code_at, code_of, parts_at};
+ghost use Rattle.qed_model.specs.Weave.Woven.{lean};
+ghost use Rattle.weave.specs.Code.{IsWoven, HasCause};
+ghost use Rattle.lean.specs.Code.{code_with, parts_with, IsLeanCut};
+ghost use Rattle.lean.specs.Form.{code_at, code_of, parts_at, parts_of, kind, IsOwn};
 
 use crate::begin::BEGIN_BYTES;
 use crate::counts::counts_of;
 use crate::weaver::LeanWeaver;
 use block_split::CodeBlock;
 use plc_rounds::Visit;
-use qed_model::{EntryRow, Options, RoleRow, Test};
-use relinker::{LinkError, Linked, lay};
+use qed_model::{EntryRow, Options, Test};
+use relinker::{LinkError, lay};
 use std::alloc::{AllocError, Global};
-use weave::{copied, counted, roles, written};
+use weave::{Woven, copied, counted, written};
 
 /// What makes the parts of a test's lean form, before it is known where its entries stand.
 fn weaver<'a>(
@@ -30,6 +30,7 @@ fn weaver<'a>(
     ensures code { IfOk result (λ w. code_at w ≡ code_with test.now options.now every (map block_of blocks.now)) }
     ensures parts { IfOk result (λ w. parts_at w ≡ parts_with test.now options.now every (map block_of blocks.now)) }
     ensures blocks { IfOk result (λ w. w.blocks.now ≡ blocks.now) }
+    ensures every { IfOk result (λ w. w.every ≡ every) }
 {
     let counts = counts_of(alloc, test, options, every, blocks)?;
     let span = copied(alloc, &test.span)?;
@@ -42,6 +43,7 @@ fn weaver<'a>(
         sweeps: options.sweep,
         land: options.land,
         base: test.base,
+        distance: test.distance,
         every,
         check: test.base + 3 * test.distance + BEGIN_BYTES,
         blocks,
@@ -56,7 +58,9 @@ fn place(weaver: &mut LeanWeaver, entries: Vec<EntryRow>, last: u64)
     requires rows { EntriesAscend entries.items }
     requires low { (a : ℕ) → leads_to entries.items last a + 32 < 2 ^ 64 }
     ensures code { code_of weaver.new ≡ code_at weaver.old (leads_to entries.items last) }
+    ensures parts { parts_of weaver.new ≡ parts_at weaver.old (leads_to entries.items last) }
     ensures blocks { weaver.new.blocks.now ≡ weaver.old.blocks.now }
+    ensures every { weaver.new.every ≡ weaver.old.every }
 {
     weaver.entries = entries;
     weaver.last = last;
@@ -65,40 +69,22 @@ fn place(weaver: &mut LeanWeaver, entries: Vec<EntryRow>, last: u64)
 /// The lean form of a test that was admitted, with `every` steps from check to check at most.
 ///
 /// Errors: `TooLarge` exactly where it has more than 1,048,576 bytes: how many; want of memory.
-pub fn lean_code(
+pub fn lean_code<'a>(
     alloc: Global,
     test: &Test,
     options: &Options,
     every: u64,
-    blocks: &[CodeBlock],
-) -> Result<Linked, LinkError>
+    blocks: &'a [CodeBlock],
+) -> Result<Woven<LeanWeaver<'a>>, LinkError>
     requires { (f : ElfFile) × IsLeanCut f options.now every test.now blocks.now }
-    ensures code { IfOk result (λ linked. (f : ElfFile) → IsLeanCut f options.now every test.now blocks.now → IsLeanCodeOf f options.now every blocks.now linked) }
-    ensures cause { IfErr result (λ e. (f : ElfFile) → IsLeanCut f options.now every test.now blocks.now → HasCause f options.now every blocks.now e) }
+    ensures code { IfOk result (λ woven. (f : ElfFile) → IsLeanCut f options.now every test.now blocks.now → IsWoven (lean f options.now every (map block_of blocks.now)) f options.now test.now blocks.now (kind woven.weaver) (parts_of woven.weaver) (IsOwn woven.weaver) woven.linked) }
+    ensures cause { IfErr result (λ e. (f : ElfFile) → IsLeanCut f options.now every test.now blocks.now → HasCause (lean f options.now every (map block_of blocks.now)) e) }
 {
     let mut weaver = weaver(alloc, test, options, every, blocks)?;
-    let count = counted(alloc, &weaver, false, test, blocks)?;
+    let count = counted(alloc, &weaver, test, blocks)?;
     let layout = lay(alloc, count, test.base + 3 * test.distance)?;
     let entries = Vec::from_slice(alloc, layout.entries())?;
     place(&mut weaver, entries, layout.last());
     let linked = written(alloc, &weaver, layout, test, blocks)?;
-    Ok(linked)
-}
-
-/// What the words of the lean form of an admitted test are for.
-///
-/// Errors: want of memory.
-pub fn lean_roles(
-    alloc: Global,
-    test: &Test,
-    options: &Options,
-    every: u64,
-    blocks: &[CodeBlock],
-) -> Result<Vec<RoleRow>, AllocError>
-    requires { (f : ElfFile) × IsLeanCut f options.now every test.now blocks.now }
-    ensures { IfOk result (λ rows. (f : ElfFile) → IsLeanCut f options.now every test.now blocks.now → rows.items ≡ role_rows false (lean_parts f options.now every (map block_of blocks.now))) }
-{
-    let weaver = weaver(alloc, test, options, every, blocks)?;
-    let rows = roles(alloc, &weaver, false, test, blocks)?;
-    Ok(rows)
+    Ok(Woven { weaver, linked })
 }

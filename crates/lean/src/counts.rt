@@ -5,7 +5,7 @@ ghost use Rattle.qed_model.specs.declared.steps.TheConstants.{LEAN_LEAVE_STEPS, 
 ghost use Rattle.rv_isa.specs.Kind.{class_of};
 ghost use Rattle.elf_types.specs.declared.file.ElfFile.{ElfFile};
 ghost use Rattle.qed_model.specs.Weave.Blocks.{begins_at as begins};
-ghost use Rattle.qed_model.specs.Weave.Bounds.{cost_of, entry_steps as entry_steps_of};
+ghost use Rattle.qed_model.specs.Weave.LeanBounds.{cost_of, entry_steps as entry_steps_of};
 ghost use Rattle.qed_model.specs.Weave.LeanCode.{block_steps as block_cost, leads_on, leads_as, owed_as as owed_as_of, owed_behind as owed_behind_of, needs_tick as needs_tick_of, counting_of, tick_rows, has_tick, most_at};
 ghost use Rattle.qed_model.specs.Weave.Sequences.{Block};
 ghost use Rattle.block_split.specs.Listed.{block_of, end_of};
@@ -16,7 +16,7 @@ ghost use Rattle.lean.specs.Counts.{ticks_in, most_in, owed_in, AddsTo, counting
 use crate::steps::block_steps;
 use block_split::CodeBlock;
 use passes::target;
-use qed_model::steps::{LEAN_LEAVE_STEPS, MOST_OWED, entry_steps, instruction_steps};
+use qed_model::steps::{LEAN_LEAVE_STEPS, MOST_OWED, entry_steps, lean_instruction_steps};
 use qed_model::{Options, Test};
 use rv_isa::{Class, Ins};
 use std::alloc::{AllocError, Global};
@@ -187,11 +187,11 @@ fn counts_in(alloc: Global, terms: &Terms) -> Result<Counts, AllocError>
 
 /// How many steps may be left to the tick before: those from check to check, less those that a block has at most, but 48 at most.
 fn room(options: &Options, every: u64) -> u64
-    requires { every ≤ 2048 }
+    requires { every ≤ 2047 }
     ensures value { result ≡ min (every - (entry_steps_of options.now.land + (LEAN_LEAVE_STEPS + 1) + cost_of options.now.diverse * options.now.inst_max)) MOST_OWED }
     ensures bound { result ≤ 48 }
 {
-    let body = instruction_steps(options.diverse).saturating_mul(options.inst_max);
+    let body = lean_instruction_steps(options.diverse).saturating_mul(options.inst_max);
     let left = every.saturating_sub(body.saturating_add(
         entry_steps(options.land) + LEAN_LEAVE_STEPS + 1,
     ));

@@ -1,29 +1,26 @@
 //! How a block is left.
-ghost use Rattle.std.specs.Prelude.{◌≡◌, ◌%◌, ◌+◌, ◌^◌, ◌<◌, ◌++◌, [], ◌∷◌, false, AllPairs, OnOk, map, pos};
+ghost use Rattle.std.specs.Prelude.{◌≡◌, ◌%◌, ◌+◌, ◌^◌, ◌<◌, ◌++◌, AllPairs, OnOk, map};
 ghost use Rattle.rv_isa.specs.declared.class.Class.TheVariants as class;
 ghost use Rattle.rv_isa.specs.Kind.{class_of};
-ghost use Rattle.qed_model.specs.declared.item.Item.TheVariants.{Plain};
 ghost use Rattle.machine.specs.Step.{target as target_of};
 ghost use Rattle.qed_model.specs.Weave.Blocks.{begins_at as begins};
-ghost use Rattle.machine.specs.Table.{ins as ins_of};
-ghost use Rattle.qed_model.specs.Weave.Placed.{sum_of_sizes};
 ghost use Rattle.qed_model.specs.Weave.Sequences.{guard, links};
-ghost use Rattle.qed_model.specs.Weave.Lean.{opposite as opposite_of, leave_as, goes};
+ghost use Rattle.qed_model.specs.Weave.Lean.{opposite as opposite_of, check_way, taken, turn_leap, goes};
 ghost use Rattle.qed_model.specs.Weave.LeanCode.{fall_words};
 ghost use Rattle.plc_rounds.specs.Spans.{spans_of};
 ghost use Rattle.block_split.specs.Listed.{block_of, end_of};
 ghost use Rattle.weave.specs.Fits.{FitsEnd, FitsLeave};
 ghost use Rattle.weave.specs.Handed.{Comes, Handed};
-ghost use Rattle.lean.specs.Form.{form};
-ghost use Rattle.lean.specs.Leaves.{before, falls, ways, aim_of, leap_sign, ecall_parts, before_parts, last_as, last_items, IsNear, TurnsAs, Turns};
+ghost use Rattle.lean.specs.Form.{form, blocks_in};
+ghost use Rattle.lean.specs.Leaves.{before, falls, over, leap, aim, guarded_leap, ecall_parts, before_parts, last_as, last_items, IsNear, TurnsAs, Turns};
 
 use crate::blocks::begins_at;
-use crate::check::put_compare;
-use crate::turn::{goes_size, put_check_sign, put_goes, put_turn};
+use crate::check::{put_called, put_check_distance, put_compare, put_look_again};
+use crate::turn::{goes_size, put_goes, put_turn};
 use crate::weaver::LeanWeaver;
 use block_split::CodeBlock;
 use end_sweep::put_checks;
-use flow_tracking::{put_guards_of, put_leap, put_links};
+use flow_tracking::{put_check_sign, put_links, put_look_up};
 use passes::{Emit, plain, put_guard, target};
 use qed_model::{Item, Range, Role};
 use relinker::ItemSink;
@@ -45,6 +42,19 @@ fn opposite(kind: Kind) -> Kind
         Kind::Bgeu => Kind::Bltu,
         _ => kind,
     }
+}
+
+/// Fires where a branch of some kind would not be taken on the pairs.
+fn put_check_way(kind: Kind, ins: &Ins, out: &mut Emit) -> Result<(), AllocError>
+    requires { FitsLeave class.Branch ins.now }
+    ensures { OnOk result (out.new ≡ out.old ++ check_way kind ins.now) }
+{
+    let zero = register(0);
+    out.put(&[
+        plain(kind, zero, ins.rs1.pair(), ins.rs2.pair(), 8),
+        plain(Kind::Ebreak, zero, zero, zero, 0),
+    ])?;
+    Ok(())
 }
 
 /// Leads behind a block: nothing, where one of the blocks stands there.
@@ -79,13 +89,20 @@ fn put_before(sweeps: bool, span: &[Range], out: &mut Emit) -> Result<(), AllocE
 }
 
 impl<'a> LeanWeaver<'a> {
-    /// Hands on what stands before an ECALL in the block that begins at `start`.
-    fn before_ecall<S: ItemSink>(&self, start: u64, to: &mut PartSink<S>) -> Result<(), AllocError>
-        requires { Comes (S.took to.old.sink) to.old.items (ecall_parts (form self.now) start) }
-        ensures { OnOk result (Handed (S.took to.old.sink) (S.took to.new.sink) to.new.items (ecall_parts (form self.now) start)) }
+    /// Hands on what stands before an ECALL at `at`, in the block that begins at `start`.
+    fn before_ecall<S: ItemSink>(
+        &self,
+        start: u64,
+        at: u64,
+        to: &mut PartSink<S>,
+    ) -> Result<(), AllocError>
+        requires { Comes (S.took to.old.sink) to.old.items (ecall_parts (form self.now) self.now.distance start at) }
+        ensures { OnOk result (Handed (S.took to.old.sink) (S.took to.new.sink) to.new.items (ecall_parts (form self.now) self.now.distance start at)) }
     {
         put_compare(&mut to.items)?;
         to.end(Role::Sweep)?;
+        put_check_distance(self.distance, &mut to.items)?;
+        to.end(Role::Leave(at))?;
         put_check_sign(start, &mut to.items)?;
         to.end(Role::Sign(start))?;
         put_before(self.sweeps, self.visits.span.as_slice(), &mut to.items)?;
@@ -93,18 +110,19 @@ impl<'a> LeanWeaver<'a> {
         Ok(())
     }
 
-    /// Hands on what stands before the end of the block that begins at `start`, if it is an ECALL.
+    /// Hands on what stands before the end at `at` of the block that begins at `start`, if it is an ECALL.
     pub(crate) fn before_end<S: ItemSink>(
         &self,
         end: &Option<Ins>,
         start: u64,
+        at: u64,
         to: &mut PartSink<S>,
     ) -> Result<(), AllocError>
-        requires { Comes (S.took to.old.sink) to.old.items (before_parts (form self.now) end.now start) }
-        ensures { OnOk result (Handed (S.took to.old.sink) (S.took to.new.sink) to.new.items (before_parts (form self.now) end.now start)) }
+        requires { Comes (S.took to.old.sink) to.old.items (before_parts (form self.now) self.now.distance end.now start at) }
+        ensures { OnOk result (Handed (S.took to.old.sink) (S.took to.new.sink) to.new.items (before_parts (form self.now) self.now.distance end.now start at)) }
     {
         if is_end(end) {
-            self.before_ecall(start, to)?;
+            self.before_ecall(start, at, to)?;
         }
         Ok(())
     }
@@ -120,43 +138,46 @@ fn put_jump(ins: &Ins, start: u64, at: u64, out: &mut Emit) -> Result<(), AllocE
     put_goes(start, target(ins, at), out)
 }
 
-/// Both ways of a branch.
-fn put_ways(
+/// The way of a branch that is taken.
+fn put_taken(ins: &Ins, start: u64, to: u64, out: &mut Emit) -> Result<(), AllocError>
+    requires fits { FitsLeave class.Branch ins.now }
+    requires near { IsNear start to }
+    ensures { OnOk result (out.new ≡ out.old ++ taken ins.now start to) }
+{
+    put_check_way(ins.kind, ins, out)?;
+    put_goes(start, to, out)
+}
+
+/// The branch over the way that is taken, and that way.
+fn put_over(ins: &Ins, start: u64, to: u64, out: &mut Emit) -> Result<(), AllocError>
+    requires fits { FitsLeave class.Branch ins.now }
+    requires near { IsNear start to }
+    ensures { OnOk result (out.new ≡ out.old ++ over ins.now start to) }
+{
+    let skip = (12 + goes_size(start, to)).cast_signed();
+    let over = plain(opposite(ins.kind), register(0), ins.rs1, ins.rs2, skip);
+    out.push(over)?;
+    put_taken(ins, start, to, out)
+}
+
+/// The way of a branch that is not taken, to the address behind it.
+fn put_missed(
     blocks: &[CodeBlock],
+    ins: &Ins,
     start: u64,
-    to: u64,
     next: u64,
     out: &mut Emit,
 ) -> Result<(), AllocError>
     requires ascend { AllPairs (λ b c. b.start < c.start) blocks.now }
-    requires near_to { IsNear start to }
-    requires near_next { IsNear start next }
-    ensures { OnOk result (out.new ≡ out.old ++ ways (fall_words (begins (map block_of blocks.now))) start to next) }
+    requires fits { FitsLeave class.Branch ins.now }
+    requires near { IsNear start next }
+    ensures { OnOk result (out.new ≡ out.old ++ (check_way (opposite_of ins.now.kind) ins.now ++ falls (fall_words (begins (map block_of blocks.now))) start next)) }
 {
-    put_goes(start, to, out)?;
+    put_check_way(opposite(ins.kind), ins, out)?;
     put_next(blocks, start, next, out)
 }
 
-/// The branch that is taken where the test's is not, and both ways.
-fn put_over(
-    blocks: &[CodeBlock],
-    ins: &Ins,
-    start: u64,
-    at: u64,
-    out: &mut Emit,
-) -> Result<(), AllocError>
-    requires ascend { AllPairs (λ b c. b.start < c.start) blocks.now }
-    requires near { TurnsAs class.Branch ins.now start at }
-    ensures { OnOk result (out.new ≡ out.old ++ Plain (ins_of (opposite_of ins.now.kind) 0 ins.now.rs1 ins.now.rs2 (pos (4 + sum_of_sizes false (goes start (target_of ins.now at))))) ∷ ways (fall_words (begins (map block_of blocks.now))) start (target_of ins.now at) ((at + 4) % 2 ^ 64)) }
-{
-    let to = target(ins, at);
-    let skip = (4 + goes_size(start, to)).cast_signed();
-    let over = plain(opposite(ins.kind), register(0), ins.rs1, ins.rs2, skip);
-    out.push(over)?;
-    put_ways(blocks, start, to, at.wrapping_add(4), out)
-}
-
-/// The leave of a branch.
+/// The leave of a branch: by the originals to one of both ways.
 fn put_branch(
     blocks: &[CodeBlock],
     ins: &Ins,
@@ -167,16 +188,16 @@ fn put_branch(
     requires ascend { AllPairs (λ b c. b.start < c.start) blocks.now }
     requires fits { FitsLeave class.Branch ins.now }
     requires near { TurnsAs class.Branch ins.now start at }
-    ensures { OnOk result (out.new ≡ out.old ++ leave_as [] (fall_words (begins (map block_of blocks.now))) class.Branch ins.now start at) }
+    ensures { OnOk result (out.new ≡ out.old ++ last_as 0 (fall_words (begins (map block_of blocks.now))) class.Branch ins.now start at) }
 {
-    put_guards_of(ins, out)?;
-    put_over(blocks, ins, start, at, out)
+    put_over(ins, start, target(ins, at), out)?;
+    put_missed(blocks, ins, start, at.wrapping_add(4), out)
 }
 
 /// Turns the signature to the target of a JALR by the pair.
-fn put_leap_sign(ins: &Ins, start: u64, out: &mut Emit) -> Result<(), AllocError>
+fn put_turn_leap(ins: &Ins, start: u64, out: &mut Emit) -> Result<(), AllocError>
     requires { FitsLeave class.JumpReg ins.now }
-    ensures { OnOk result (out.new ≡ out.old ++ leap_sign ins.now start) }
+    ensures { OnOk result (out.new ≡ out.old ++ turn_leap ins.now start) }
 {
     let (zero, sign, address) = (register(0), register(SIGNATURE), register(TEMPORARY));
     out.put(&[
@@ -189,54 +210,84 @@ fn put_leap_sign(ins: &Ins, start: u64, out: &mut Emit) -> Result<(), AllocError
     Ok(())
 }
 
-/// The leave of a JALR: the pair turns the signature, the original gives the target.
-fn put_indirect(ins: &Ins, start: u64, at: u64, out: &mut Emit) -> Result<(), AllocError>
-    requires { FitsLeave class.JumpReg ins.now }
-    ensures { OnOk result (out.new ≡ out.old ++ (leap_sign ins.now start ++ (guard ins.now.rs1 ++ aim_of ins.now at))) }
+/// The jump of a JALR to the target in x30, which has to be the signature: its return addresses, and both look-ups.
+fn put_leap(distance: u64, ins: &Ins, at: u64, out: &mut Emit) -> Result<(), AllocError>
+    requires half { distance < 2 ^ 63 }
+    requires fits { FitsLeave class.JumpReg ins.now }
+    ensures { OnOk result (out.new ≡ out.old ++ leap distance ins.now at) }
 {
-    put_leap_sign(ins, start, out)?;
-    put_leap(ins, at, out)?;
-    Ok(())
+    put_called(out)?;
+    put_links(ins, at, out)?;
+    put_look_up(register(TEMPORARY), out)?;
+    put_look_again(distance, out)
 }
 
-/// The leave of an instruction that ends a block.
-fn put_stop(
-    blocks: &[CodeBlock],
-    ins: &Ins,
-    start: u64,
-    at: u64,
-    out: &mut Emit,
-) -> Result<(), AllocError>
-    requires ascend { AllPairs (λ b c. b.start < c.start) blocks.now }
-    requires fits { FitsLeave (class_of ins.now.kind) ins.now }
-    requires near { TurnsAs (class_of ins.now.kind) ins.now start at }
-    ensures { OnOk result (out.new ≡ out.old ++ last_as (fall_words (begins (map block_of blocks.now))) (class_of ins.now.kind) ins.now start at) }
+/// The target of a JALR by the original, and the jump there.
+fn put_aim(distance: u64, ins: &Ins, at: u64, out: &mut Emit) -> Result<(), AllocError>
+    requires half { distance < 2 ^ 63 }
+    requires fits { FitsLeave class.JumpReg ins.now }
+    ensures { OnOk result (out.new ≡ out.old ++ aim distance ins.now at) }
 {
-    match ins.class() {
-        Class::Jump => put_jump(ins, start, at, out)?,
-        Class::Branch => put_branch(blocks, ins, start, at, out)?,
-        Class::JumpReg => put_indirect(ins, start, at, out)?,
-        _ => out.push(Item::Plain(*ins))?,
-    }
-    Ok(())
+    let (zero, to) = (register(0), register(TEMPORARY));
+    out.put(&[
+        plain(Kind::Addi, to, ins.rs1, zero, ins.imm),
+        plain(Kind::Andi, to, to, zero, -2),
+    ])?;
+    put_leap(distance, ins, at, out)
 }
 
-/// The leave of a block that begins at `start` and has its end at `at`, without what stands before an ECALL.
-pub(crate) fn put_leave(
-    blocks: &[CodeBlock],
-    end: &Option<Ins>,
-    start: u64,
-    at: u64,
-    out: &mut Emit,
-) -> Result<(), AllocError>
-    requires ascend { AllPairs (λ b c. b.start < c.start) blocks.now }
-    requires fits { FitsEnd end.now }
-    requires near { Turns (end_of end.now) start at }
-    ensures { OnOk result (out.new ≡ out.old ++ last_items (fall_words (begins (map block_of blocks.now))) end.now start at) }
+/// The leave of a JALR from the test of the distance on: the guard of the original, and the jump.
+fn put_guarded_leap(distance: u64, ins: &Ins, at: u64, out: &mut Emit) -> Result<(), AllocError>
+    requires half { distance < 2 ^ 63 }
+    requires fits { FitsLeave class.JumpReg ins.now }
+    ensures { OnOk result (out.new ≡ out.old ++ guarded_leap distance ins.now at) }
 {
-    match end {
-        None => put_next(blocks, start, at, out)?,
-        Some(ins) => put_stop(blocks, ins, start, at, out)?,
+    put_check_distance(distance, out)?;
+    put_guard(out, ins.rs1)?;
+    put_aim(distance, ins, at, out)
+}
+
+impl<'a> LeanWeaver<'a> {
+    /// The leave of a JALR: the pair turns the signature, and the original gives the target.
+    fn put_indirect(&self, ins: &Ins, start: u64, at: u64, out: &mut Emit) -> Result<(), AllocError>
+        requires { FitsLeave class.JumpReg ins.now }
+        ensures { OnOk result (out.new ≡ out.old ++ (turn_leap ins.now start ++ guarded_leap self.now.distance ins.now at)) }
+    {
+        put_turn_leap(ins, start, out)?;
+        put_guarded_leap(self.distance, ins, at, out)
     }
-    Ok(())
+
+    /// The leave of an instruction at `at` that ends the block that begins at `start`, without what stands before an ECALL.
+    fn put_stop(&self, ins: &Ins, start: u64, at: u64, out: &mut Emit) -> Result<(), AllocError>
+        requires fits { FitsLeave (class_of ins.now.kind) ins.now }
+        requires near { TurnsAs (class_of ins.now.kind) ins.now start at }
+        ensures { OnOk result (out.new ≡ out.old ++ last_as self.now.distance (fall_words (begins (blocks_in self.now))) (class_of ins.now.kind) ins.now start at) }
+    {
+        match ins.class() {
+            Class::Jump => put_jump(ins, start, at, out)?,
+            Class::Branch => put_branch(self.blocks, ins, start, at, out)?,
+            Class::JumpReg => self.put_indirect(ins, start, at, out)?,
+            _ => out.push(Item::Plain(*ins))?,
+        }
+        Ok(())
+    }
+
+    /// The leave of a block that begins at `start` and has its end at `at`, without what stands before an ECALL.
+    pub(crate) fn put_leave(
+        &self,
+        end: &Option<Ins>,
+        start: u64,
+        at: u64,
+        out: &mut Emit,
+    ) -> Result<(), AllocError>
+        requires fits { FitsEnd end.now }
+        requires near { Turns (end_of end.now) start at }
+        ensures { OnOk result (out.new ≡ out.old ++ last_items self.now.distance (fall_words (begins (blocks_in self.now))) end.now start at) }
+    {
+        match end {
+            None => put_next(self.blocks, start, at, out)?,
+            Some(ins) => self.put_stop(ins, start, at, out)?,
+        }
+        Ok(())
+    }
 }

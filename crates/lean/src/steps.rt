@@ -3,16 +3,16 @@ ghost use Rattle.std.specs.Prelude.{◌≡◌, ◌+◌, ◌*◌, ◌^◌, ◌<�
 ghost use Rattle.rv_isa.specs.Kind.{class_of};
 ghost use Rattle.qed_model.specs.Weave.Blocks.{begins_at as begins};
 ghost use Rattle.qed_model.specs.Weave.Placed.{sum_of_sizes};
-ghost use Rattle.qed_model.specs.Weave.Sequences.{guard, guards_of, links};
+ghost use Rattle.qed_model.specs.Weave.Sequences.{guard, links};
 ghost use Rattle.qed_model.specs.Weave.Costs.{cost_each, original_cost, mirror_steps as mirror_cost, spent as spent_of};
 ghost use Rattle.qed_model.specs.Weave.Lean.{cost, is_break, leave_cost, leave_cost_as};
-ghost use Rattle.qed_model.specs.Weave.LeanCode.{fall_to, fall_words, mirror_steps_of, block_steps as block_cost};
+ghost use Rattle.qed_model.specs.Weave.LeanCode.{fall_to, fall_words, mirror_steps_of, store_steps as store_cost, both_steps as both_cost, block_steps as block_cost};
 ghost use Rattle.block_split.specs.Listed.{block_of, end_of};
 ghost use Rattle.relinker.specs.Counted.{capped};
 ghost use Rattle.weave.specs.Fits.{FitsBlock};
-ghost use Rattle.lean.specs.Steps.{both_cost};
 
 use crate::blocks::begins_at;
+use crate::piece::is_store;
 use crate::turn::turn_steps;
 use block_split::CodeBlock;
 use passes::target;
@@ -61,11 +61,26 @@ fn diverse_steps(ins: &Ins) -> u64
     }
 }
 
+/// The steps of a store in both halves.
+fn store_steps(ins: &Ins) -> u64
+    ensures value { result ≡ store_cost ins.now }
+    ensures bound { result ≤ 6 }
+{
+    if ins.rs2 == ins.rs1 || ins.rs2.number() == 0 {
+        5
+    } else {
+        6
+    }
+}
+
 /// The steps of both parts.
 fn both_steps(diverse: bool, ins: &Ins) -> u64
     ensures value { result ≡ both_cost diverse ins.now }
     ensures bound { result ≤ 16 }
 {
+    if is_store(ins) {
+        return store_steps(ins);
+    }
     let mirror = if diverse {
         diverse_steps(ins)
     } else {
@@ -103,19 +118,6 @@ fn guard_steps(r: Reg) -> u64
     if r.number() == 0 { 0 } else { 1 }
 }
 
-/// The steps of the guards of both source registers.
-fn guards_steps(ins: &Ins) -> u64
-    ensures value { result ≡ cost (guards_of ins.now) }
-    ensures bound { result ≤ 2 }
-{
-    let second = if ins.rs2 == ins.rs1 {
-        0
-    } else {
-        guard_steps(ins.rs2)
-    };
-    guard_steps(ins.rs1) + second
-}
-
 /// The steps of the return addresses of a jump.
 fn links_steps(ins: &Ins) -> u64
     ensures value { (at : ℕ) → cost (links ins.now at) ≡ result }
@@ -136,25 +138,25 @@ fn own_step(ins: &Ins) -> u64
 fn branch_steps(blocks: &[CodeBlock], ins: &Ins, start: u64, at: u64) -> u64
     requires { AllPairs (λ b c. b.start < c.start) blocks.now }
     ensures value { result ≡ leave_cost_as (fall_to (begins (map block_of blocks.now))) Class.Branch ins.now start at }
-    ensures bound { result ≤ 19 }
+    ensures bound { result ≤ 27 }
 {
     let next = at.wrapping_add(4);
     let taken = turn_steps(start, target(ins, at)) + 1;
     let falls = turn_steps(start, next) + fall_steps(blocks, next);
-    guards_steps(ins) + 1 + if taken < falls { falls } else { taken }
+    2 + if taken < falls { falls } else { taken }
 }
 
 /// The most steps of an instruction that ends a block.
 fn stop_steps(blocks: &[CodeBlock], ins: &Ins, start: u64, at: u64) -> u64
     requires { AllPairs (λ b c. b.start < c.start) blocks.now }
     ensures value { result ≡ leave_cost_as (fall_to (begins (map block_of blocks.now))) (class_of ins.now.kind) ins.now start at }
-    ensures bound { result ≤ 19 }
+    ensures bound { result ≤ 27 }
 {
     match ins.class() {
         Class::End => 18 + own_step(ins),
         Class::Jump => links_steps(ins) + turn_steps(start, target(ins, at)) + 1,
         Class::Branch => branch_steps(blocks, ins, start, at),
-        Class::JumpReg => 13 + guard_steps(ins.rs1) + links_steps(ins),
+        Class::JumpReg => 22 + guard_steps(ins.rs1) + links_steps(ins),
         _ => own_step(ins),
     }
 }
@@ -163,7 +165,7 @@ fn stop_steps(blocks: &[CodeBlock], ins: &Ins, start: u64, at: u64) -> u64
 fn leave_steps(blocks: &[CodeBlock], end: &Option<Ins>, start: u64, at: u64) -> u64
     requires { AllPairs (λ b c. b.start < c.start) blocks.now }
     ensures value { result ≡ leave_cost (fall_to (begins (map block_of blocks.now))) (end_of end.now) start at }
-    ensures bound { result ≤ 19 }
+    ensures bound { result ≤ 27 }
 {
     match end {
         None => turn_steps(start, at) + fall_steps(blocks, at),

@@ -2,12 +2,12 @@
 ghost use Rattle.std.specs.Prelude.{◌≡◌, ◌*◌, ◌^◌, ◌-◌, ◌≤◌, ◌++◌, false, OnOk, pos, ◌≤ℤ◌};
 ghost use Rattle.machine.specs.Offsets.{distance_between as distance_of};
 ghost use Rattle.qed_model.specs.Weave.Placed.{sum_of_sizes};
-ghost use Rattle.qed_model.specs.Weave.Lean.{is_short as is_short_of, turn_by, turn, goes, check_sign, cost};
+ghost use Rattle.qed_model.specs.Weave.Lean.{is_short as is_short_of, turn_by, turn, goes, cost};
 
 use passes::{Emit, plain};
 use qed_model::Item;
 use relinker::{distance_between, upper_part};
-use rv_isa::profile::{SIGNATURE, SPARE, TEMPORARY};
+use rv_isa::profile::{SIGNATURE, TEMPORARY};
 use rv_isa::{Kind, register};
 use std::alloc::AllocError;
 
@@ -81,21 +81,4 @@ pub(crate) fn goes_size(from: u64, to: u64) -> u64
     ensures bound { result ≤ 16 }
 {
     4 * turn_steps(from, to) + 4
-}
-
-/// Fires where the signature is not that of an input address.
-pub(crate) fn put_check_sign(at: u64, out: &mut Emit) -> Result<(), AllocError>
-    ensures { OnOk result (out.new ≡ out.old ++ check_sign at) }
-{
-    let zero = register(0);
-    let address = register(TEMPORARY);
-    let sign = register(SPARE);
-    out.put(&[
-        Item::Constant(address, at),
-        plain(Kind::Sub, sign, register(SIGNATURE), address, 0),
-        plain(Kind::Slli, sign, sign, zero, 32),
-        plain(Kind::Beq, zero, sign, zero, 8),
-        plain(Kind::Ebreak, zero, zero, zero, 0),
-    ])?;
-    Ok(())
 }

@@ -1,11 +1,11 @@
 -- The words of new code with what each is for: a line for each word, as in a listing, with its role in the place of the word.
 use Rattle.std.specs.Prelude.{ℕ, ◌+◌, ◌-◌, ◌/◌, ◌==◌, ◌&&◌, ◌||◌, nat_lt, nat_le, not, Bool, false, if◌then◌else◌, Option, Some, None, List, [], ◌∷◌, ◌++◌, codes, take, drop}
 use Rattle.std.specs.Fmt.{decimal}
-use Rattle.rv_isa.specs.declared.profile.TheConstants.{PAIR_DISTANCE}
+use Rattle.rv_isa.specs.Operation.{pair}
 use Rattle.elf_types.specs.declared.file.Symbol.{Symbol}
 use Rattle.elf_types.specs.Symbol.{is_code_symbol}
 use Rattle.qed_model.specs.declared.role.Role.{Role}
-use Rattle.qed_model.specs.declared.role.Role.TheVariants.{Start, Entry, Original, Mirror, Guard, Compare, Visit, Leave, LeaveGuard, Sweep, End, Stub, Tick, Check, CheckCompare, CheckVisit, Sign}
+use Rattle.qed_model.specs.declared.role.Role.TheVariants.{Start, Entry, Original, Mirror, Guard, Compare, Visit, Leave, LeaveGuard, Sweep, End, Stub, Tick, Check, CheckCompare, CheckVisit, LookUp, Sign}
 use Rattle.qed_model.specs.declared.role.RoleRow.{RoleRow}
 use Rattle.rv_text.specs.Text.{text_of}
 use Rattle.texts.specs.Printed.{hex_digits, hex_text}
@@ -30,6 +30,7 @@ role_text (Tick at) = codes "tick " ++ hex_text at
 role_text Check = codes "check"
 role_text (CheckCompare r) = codes "compare x" ++ (decimal r ++ codes " check")
 role_text CheckVisit = codes "visit check"
+role_text LookUp = codes "look-up"
 role_text (Sign at) = codes "signature " ++ hex_text at
 
 -- the line of a word at an address
@@ -105,7 +106,7 @@ symbol_text (Some a) symbols = symbol_line a (nearest a None symbols)
 
 -- a register and its pair
 abbrev pub pair_text : ℕ → List ℕ
-pair_text r = codes "fired: x" ++ (decimal r ++ (codes " and x" ++ (decimal (r + PAIR_DISTANCE) ++ codes " differ\n")))
+pair_text r = codes "fired: x" ++ (decimal r ++ (codes " and x" ++ (decimal (pair r) ++ codes " differ\n")))
 
 -- the signature is not that of an input address
 abbrev pub sign_text : ℕ → List ℕ
@@ -118,10 +119,12 @@ found_text (Guard r at) = pair_text r
 found_text (Compare r first last) = pair_text r
 found_text (LeaveGuard r at) = pair_text r
 found_text (End r) = pair_text r
+found_text (Leave at) = codes "fired: the originals and the pairs lead to different places\n"
 found_text (Visit first last) = codes "fired: a data word and its duplicate differ, its address is in x15\n"
 found_text Sweep = codes "fired: a data word and its duplicate differ, its address is in x15\n"
 found_text Check = codes "fired: the check was called from another block than that of the signature\n"
 found_text (CheckCompare r) = pair_text r
+found_text LookUp = codes "fired: two look-ups of the entry of the signature differ\n"
 found_text CheckVisit = codes "fired: a data word and its duplicate differ, its address is in x15\n"
 found_text (Sign at) = sign_text at
 found_text _ = []

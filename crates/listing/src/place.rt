@@ -135,7 +135,12 @@ fn pair_line(alloc: Global, register: Reg) -> Result<String, AllocError>
     ensures { IfOk result (λ text. string_bytes text ≡ pair_text register) }
 {
     let number = register.number();
-    format!(in alloc; "fired: x{number} and x{} differ\n", number + PAIR_DISTANCE)
+    let pair = if number == 0 {
+        0
+    } else {
+        number + PAIR_DISTANCE
+    };
+    format!(in alloc; "fired: x{number} and x{pair} differ\n")
 }
 
 /// What a check of a role has found where it fires.
@@ -148,9 +153,17 @@ fn found_line(alloc: Global, role: Role) -> Result<String, AllocError>
         }
         Role::Guard(r, _) | Role::Compare(r, _, _) | Role::LeaveGuard(r, _) => pair_line(alloc, r),
         Role::End(r) | Role::CheckCompare(r) => pair_line(alloc, r),
+        Role::Leave(_) => String::from_str(
+            alloc,
+            "fired: the originals and the pairs lead to different places\n",
+        ),
         Role::Check => String::from_str(
             alloc,
             "fired: the check was called from another block than that of the signature\n",
+        ),
+        Role::LookUp => String::from_str(
+            alloc,
+            "fired: two look-ups of the entry of the signature differ\n",
         ),
         Role::Visit(_, _) | Role::Sweep | Role::CheckVisit => String::from_str(
             alloc,

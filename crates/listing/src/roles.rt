@@ -36,6 +36,7 @@ impl fmt::Display for RoleText {
             Role::Check => write!(f, "check"),
             Role::CheckCompare(r) => write!(f, "compare x{} check", r.number()),
             Role::CheckVisit => write!(f, "visit check"),
+            Role::LookUp => write!(f, "look-up"),
             Role::Sign(at) => write!(f, "signature {}", Address(at)),
         }
     }

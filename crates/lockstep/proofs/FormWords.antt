@@ -8,6 +8,7 @@ use Rattle.qed_model.specs.Weave.Blocks.{begins_at}
 use Rattle.qed_model.specs.Weave.Sequences.{Form, Block, compare, visit, ORIGINALS}
 use Rattle.weave_core.specs.KindItems.{MirrorsFit}
 use Rattle.weave_core.proofs.Lemmas.{enter_items, end_items, prologue_items, land_enter, land_end, land_prologue, lockstep_piece, both, both_steps, form_checks, rows_with, starts_with, form_rows, form_starts}
+use Rattle.lockstep.specs.Closes.{Closes}
 use Rattle.lockstep.specs.Promise.{IsBoundsOf, PlanCaught, PlanClean}
 use Rattle.weave_core.specs.Weave.{stage_steps}
 use Rattle.weave_core.specs.WeaveLaws.{Words}
@@ -17,7 +18,8 @@ use Rattle.weave_core.specs.World.{World, Item, Program}
 use Rattle.weave_core.specs.Rows.{Mirrors}
 use Rattle.weave_core.specs.WeavePromise.{PlanOf, OnlyCode, BoundsOf}
 use Rattle.weave_core.specs.WeaveForms.{weave_with, weave_of, ChecksLaws}
-use Rattle.lockstep.proofs.Weaves.{weave_caught, weave_clean}
+use Rattle.lockstep.proofs.Weaves.{catches_all, weave_caught, weave_clean}
+use Rattle.lockstep.proofs.Promise.{CaughtAll}
 
 -- ---- the words
 -- of a form with any checks
@@ -71,6 +73,14 @@ pub plan_caught : PlanCaught
 plan_caught f g w most blocks bounds p law closes some b =
     let ten = visits_ten w.form.spans w.form.round some in
     caught_with f g w most (both w most) 0 (both_steps w most) blocks bounds (form_checks w.form) p law closes.mirrors closes.only some (omega (arith, ten)) (bounds_in w most bounds b)
+
+-- also such at places that are open for Lock alone
+pub plan_caught_all :
+    (f g : Program) (w : World) (most : ℕ) (blocks : List Block) (bounds : Bounds) → PlanOf f g w (weave_of w.form most) blocks → Mirrors w → Closes f g w blocks → 1 ≤ w.form.round → IsBoundsOf w.form most bounds
+    → CaughtAll f g w bounds
+plan_caught_all f g w most blocks bounds p law closes some b =
+    let ten = visits_ten w.form.spans w.form.round some in
+    catches_all f g w (weave_of w.form most) blocks p (form_rows w most (begins_at blocks) law) (form_starts w most (begins_at blocks) f g) (form_words w.form most closes.mirrors) closes.only some (omega arith) (omega (arith, ten)) bounds (bounds_in w most bounds b)
 
 -- and the sweep lets none end silently
 pub plan_clean : PlanClean

@@ -7,9 +7,7 @@ use Rattle.qed_model.specs.declared.change.Change.{Change}
 use Rattle.machine.specs.declared.place.Place.TheVariants.{Reg, Word}
 use Rattle.tests.specs.Admission.DataRanges.{word_count}
 use Rattle.machine.specs.Struck.{struck}
-use Rattle.qed_model.specs.Promise.Caught.{Caught}
 use Rattle.qed_model.specs.Promise.Changed.{changed_run, IsDataWord}
-use Rattle.qed_model.specs.Promise.Closed.{IsOpen}
 use Rattle.qed_model.specs.Promise.Kept.{Steady}
 use Rattle.qed_model.specs.Weave.Blocks.{begins_at}
 use Rattle.qed_model.specs.Weave.Bounds.{word_bound}
@@ -27,13 +25,15 @@ use Rattle.weave_core.proofs.TestKept as kept
 use Rattle.lockstep.specs.Closes.{Closes}
 use Rattle.lockstep.specs.InstructionFaults.{WritesOriginal, StoresOriginal, word_around, GivesAny, StoresAny, FoundOut, FaultsFound, InstructionFaultsAreCaught}
 use Rattle.lockstep.specs.Promise.{IsBoundsOf}
-use Rattle.lockstep.proofs.FormWords.{form_words, bounds_in, plan_caught}
+use Rattle.lockstep.proofs.FormWords.{form_words, bounds_in, plan_caught_all}
+use Rattle.lockstep.proofs.Promise.{CaughtAll}
+use Rattle.lockstep.specs.Laws.{OpenAt}
 use Rattle.lockstep.proofs.Made.{changed_later}
 use Rattle.lockstep.proofs.Calm.{CalmCode, loaded_at, quiet_run}
 use Rattle.lockstep.proofs.Weaves.{calm_plan}
 use Rattle.lockstep.proofs.Sets.{word_below}
 use Rattle.lockstep.proofs.Tests as tests
-use Rattle.lockstep.proofs.WrongSteps.{opens_behind, writes_straight, is_open, Wrote, wrote, stored_step, any_struck, changed_there, unchanged_before, with_one, with_two, found_out}
+use Rattle.lockstep.proofs.WrongSteps.{opens_behind, writes_straight, Wrote, wrote, stored_step, any_struck, changed_there, unchanged_before, with_one, with_two, found_out}
 use Rattle.lockstep.proofs.WrongStores.{IsBeside, two_words, any_beside, struck_words}
 
 -- an access has a byte
@@ -50,7 +50,7 @@ big_word (suc n) round first piece b h e =
     let m : 1 * 2 ≤ ((suc n + round - 1) / round + 2) * piece = mul-le-mul one h in
     omega (arith, is, m)
 
-module _ (f g : Program) (w : World) (code : CalmCode f g w) (bounds : Bounds) (big : 2 ≤ bounds.register) (wide : (b : ℕ) → bounds.word ≡ Some b → 2 ≤ b) (caught : Caught f g w.reached w.form.spans bounds) (regs : List ℕ) (are : AreStartRegs regs) (n : ℕ) (i : Ins) (go : (run (start g regs) n).outcome ≡ Going) (at : next (run (start g regs) n) ≡ Known i) where
+module _ (f g : Program) (w : World) (code : CalmCode f g w) (bounds : Bounds) (big : 2 ≤ bounds.register) (wide : (b : ℕ) → bounds.word ≡ Some b → 2 ≤ b) (caught : CaughtAll f g w bounds) (regs : List ℕ) (are : AreStartRegs regs) (n : ℕ) (i : Ins) (go : (run (start g regs) n).outcome ≡ Going) (at : next (run (start g regs) n) ≡ Known i) where
   abbrev u : State
   u = run (start g regs) n
 
@@ -78,7 +78,7 @@ module _ (f g : Program) (w : World) (code : CalmCode f g w) (bounds : Bounds) (
             let going : (run (start g regs) (n + 1)).outcome ≡ Going = ap (λ y. y.outcome) next_is ∙ go in
             let on : (run (start g regs) n).pc + 4 ≡ next_pc (run (start g regs) n) = omega (arith, q.quiet.near) in
             let place_is : (run (start g regs) n).pc + 4 ≡ (run (start g regs) (n + 1)).pc = on ∙ sym (ap (λ y. y.pc) next_is) in
-            let free : IsOpen (run (start g regs) (n + 1)) (Reg i.rd) = is_open w.code (span_bytes w.form.spans) (run (start g regs) (n + 1)) i.rd (loaded_at f g w code regs are (n + 1)) (subst (Opens w.code) place_is (opens_behind w.code (run (start g regs) n).pc i (fits q) (writes_straight i wr))) in
+            let free : OpenAt w.code (run (start g regs) (n + 1)).pc (Reg i.rd) = subst (Opens w.code) place_is (opens_behind w.code (run (start g regs) n).pc i (fits q) (writes_straight i wr)) i.rd in
             let there : changed_run (start g regs) (record { step = n + 1; place = Reg i.rd; value = x } ∷ []) (n + 1) ≡ o =
             changed_there (start g regs) (record { step = n + 1; place = Reg i.rd; value = x } ∷ []) n (omega arith, tt)
             ∙ with_one (record { step = n + 1; place = Reg i.rd; value = x }) (n + 1) (run (start g regs) (n + 1)) refl going
@@ -87,7 +87,7 @@ module _ (f g : Program) (w : World) (code : CalmCode f g w) (bounds : Bounds) (
             found_out w.form.spans (start g regs) (changed_run (start g regs) (record { step = n + 1; place = Reg i.rd; value = x } ∷ [])) o (n + 1) bounds.register going
             (λ k h. unchanged_before (start g regs) (record { step = n + 1; place = Reg i.rd; value = x } ∷ []) k (h, tt))
             (λ k. changed_later (start g regs) (n + 1) k (record { step = n + 1; place = Reg i.rd; value = x } ∷ []) (omega arith, tt) ∙ ap (λ y. run y k) there)
-            (caught.settles regs (record { step = n + 1; place = Reg i.rd; value = x } ∷ []) bounds.register are tt ((wr.some, wr.low), free, tt) refl steady going)
+            (caught.settles regs (record { step = n + 1; place = Reg i.rd; value = x } ∷ []) bounds.register are tt ((wr.some, wr.low), free, tt) refl steady)
 
   -- other bytes
   stores : (o : State) (b : ℕ) → StoresOriginal w.form.spans i (run (start g regs) n) → StoresAny i (run (start g regs) n) o → bounds.word ≡ Some b → Steady f w.reached (n + 1 + b) → FoundOut w.form.spans b o (λ k. run (start g regs) (n + 1 + k))
@@ -128,11 +128,11 @@ module _ (f g : Program) (w : World) (code : CalmCode f g w) (bounds : Bounds) (
                   found_out w.form.spans (start g regs) (changed_run (start g regs) (c ∷ d ∷ [])) o (n + 1) b going
                   (λ k h. unchanged_before (start g regs) (c ∷ d ∷ []) k (h, (h, tt)))
                   (λ k. changed_later (start g regs) (n + 1) k (c ∷ d ∷ []) (omega arith, (omega arith, tt)) ∙ ap (λ x. run x k) there)
-                  (caught.settles regs (c ∷ d ∷ []) b are (omega arith, tt) (df, tt, (dl, tt, tt)) bound steady going)
+                  (caught.settles regs (c ∷ d ∷ []) b are (omega arith, tt) (df, tt, (dl, tt, tt)) bound steady)
 
 -- ---- where changes are caught
 pub faults_found :
-    (f g : Program) (w : World) (bounds : Bounds) → CalmCode f g w → 2 ≤ bounds.register → ((b : ℕ) → bounds.word ≡ Some b → 2 ≤ b) → Caught f g w.reached w.form.spans bounds
+    (f g : Program) (w : World) (bounds : Bounds) → CalmCode f g w → 2 ≤ bounds.register → ((b : ℕ) → bounds.word ≡ Some b → 2 ≤ b) → CaughtAll f g w bounds
     → FaultsFound f g w.reached w.form.spans bounds
 faults_found f g w bounds code big wide caught = record {
   results = λ regs n i o are go at wr any steady. results f g w code bounds big wide caught regs are n i go at o wr any steady;
@@ -143,7 +143,7 @@ faults_found f g w bounds code big wide caught = record {
 pub plan_faults :
     (f g : Program) (w : World) (most : ℕ) (blocks : List Block) (bounds : Bounds) → PlanOf f g w (weave_of w.form most) blocks → Mirrors w → Closes f g w blocks → 1 ≤ w.form.round → IsBoundsOf w.form most bounds
     → FaultsFound f g w.reached w.form.spans bounds
-plan_faults f g w most blocks bounds p law closes some b = faults_found f g w bounds code big wide (plan_caught f g w most blocks bounds p law closes some b) where
+plan_faults f g w most blocks bounds p law closes some b = faults_found f g w bounds code big wide (plan_caught_all f g w most blocks bounds p law closes some b) where
   code : CalmCode f g w
   code = calm_plan f g w (weave_of w.form most) blocks p (form_rows w most (begins_at blocks) law).rows (form_starts w most (begins_at blocks) f g) (form_words w.form most closes.mirrors) closes.only
 

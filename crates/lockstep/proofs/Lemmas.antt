@@ -10,6 +10,6 @@ pub use Rattle.lockstep.proofs.Cleaned.{cleaned}
 pub use Rattle.lockstep.proofs.Weaves.{all_blocks, weave_caught, weave_clean}
 pub use Rattle.lockstep.proofs.Tests.{tests_caught, tests_clean}
 pub use Rattle.lockstep.proofs.Coded.{WordAt, reads_rest, stub_open, stub_words, word_of}
-pub use Rattle.lockstep.proofs.Promise.{BoundsBy, Times, settles}
+pub use Rattle.lockstep.proofs.Promise.{BoundsBy, CaughtAll, Times, caught_of, settles, settles_all}
 pub use Rattle.lockstep.proofs.FormWords.{caught_with, form_words, visits_ten}
 pub use Rattle.lockstep.proofs.InstructionFaults.{faults_found, instruction_faults_are_caught}

@@ -21,7 +21,7 @@ use Rattle.lockstep.proofs.Beating.{sizes, traced, Bound, swept_end}
 use Rattle.lockstep.proofs.Calm.{CalmCode}
 use Rattle.lockstep.proofs.Cleaned.{cleaned}
 use Rattle.lockstep.proofs.Coded.{word_at, entries_open}
-use Rattle.lockstep.proofs.Promise.{Times, BoundsBy, settles}
+use Rattle.lockstep.proofs.Promise.{Times, BoundsBy, settles_all, CaughtAll, caught_of}
 use Rattle.lockstep.proofs.Trace.{Sizes}
 
 -- an instruction that ends a block
@@ -98,11 +98,14 @@ module _ (f g : Program) (w : World) (v : Weave) (blocks : List Block) (plan : P
   }
 
   -- changes are caught
-  pub catches : (bounds : Bounds) → BoundsOf w v bounds → Caught f g w.reached w.form.spans bounds
-  catches bounds are = record {
-    settles = λ regs cs b start ordered free bound steady going.
-        settles f g w code regs start z v.round v.first_steps (Bound f g w v (begins_at blocks) rows woven two room regs start) times (traced f g w v (begins_at blocks) rows woven two room regs start) bounds (by bounds are) cs b ordered free bound steady;
+  pub catches_all : (bounds : Bounds) → BoundsOf w v bounds → CaughtAll f g w bounds
+  catches_all bounds are = record {
+    settles = λ regs cs b start ordered free bound steady.
+        settles_all f g w code regs start z v.round v.first_steps (Bound f g w v (begins_at blocks) rows woven two room regs start) times (traced f g w v (begins_at blocks) rows woven two room regs start) bounds (by bounds are) cs b ordered free bound steady;
   }
+
+  pub catches : (bounds : Bounds) → BoundsOf w v bounds → Caught f g w.reached w.form.spans bounds
+  catches bounds are = caught_of f g w bounds code (catches_all bounds are)
 
   -- with the sweep none ends silently
   pub cleans : v.sweeps ≡ true → Clean f g w.reached w.form.spans (v.sweep_steps + 14)

@@ -7,14 +7,13 @@ use Rattle.rv_isa.specs.declared.class.Class.TheVariants as class
 use Rattle.qed_model.specs.declared.change.Change.{Change}
 use Rattle.machine.specs.declared.place.Place.TheVariants.{Reg}
 use Rattle.machine.specs.declared.outcome.Cause.TheVariants as cause
-use Rattle.weave_core.specs.World.{Going, Ended, Fired, put, number, grants, State, reg, moved, stored, trapped, next_pc, place, result, execute, Fetched, Known, fetched_at, next, step, run, Ins, Class, class_of, set_reg, width_of, loaded}
+use Rattle.weave_core.specs.World.{Going, Ended, Fired, put, number, grants, State, reg, moved, stored, trapped, next_pc, place, result, execute, Fetched, Known, next, step, run, Ins, Class, class_of, set_reg, width_of, loaded}
 use Rattle.machine.specs.Struck.{struck}
 use Rattle.qed_model.specs.Promise.Changed.{changed, changed_as, with_changes, changed_run}
 use Rattle.qed_model.specs.Promise.Caught.{Same, Settles}
-use Rattle.qed_model.specs.Promise.Closed.{IsOpen, closed_at}
 use Rattle.qed_model.specs.Promise.Kept.{is_trapped, NotTrapped}
 use Rattle.machine.proofs.Lemmas.{step-class, run-more, run-last}
-use Rattle.weave_core.specs.Lock.{Bytes, Opens, HasKind, scratch_compute, scratch_load, scratch_store, scratch_branch, jumps, scratch_jump, computes, fences, loads, stores as stores_kind, guards, guards_back, breaks, takes, branches, forks, ends, no_word, visits, Loaded}
+use Rattle.weave_core.specs.Lock.{Opens, HasKind, scratch_compute, scratch_load, scratch_store, scratch_branch, jumps, scratch_jump, computes, fences, loads, stores as stores_kind, guards, guards_back, breaks, takes, branches, forks, ends, no_word, visits}
 use Rattle.weave_core.proofs.Lemmas.{run-ended}
 use Rattle.lockstep.specs.InstructionFaults.{WritesOriginal, GivesAny, gives, skips, FoundOut}
 use Rattle.lockstep.proofs.Ground.{run-fired}
@@ -42,7 +41,7 @@ opens_behind c a i (computes e d o) h = o
 opens_behind c a i (fences e o) h = o
 opens_behind c a i (loads e x y o) h = o
 opens_behind c a i (stores_kind e x y o) h = o
-opens_behind c a i (guards q is low most brk b) h = no_other i class.Branch (ap (λ j. class_of j.kind) is) refl h
+opens_behind c a i (guards q x is low most high brk b) h = no_other i class.Branch (ap (λ j. class_of j.kind) is) refl h
 opens_behind c a i (guards_back q d is low most brk b) h = no_other i class.Branch (ap (λ j. class_of j.kind) is) refl h
 opens_behind c a i (breaks e) h = no_other i class.Break e refl h
 opens_behind c a i (takes e d x o) h = o
@@ -55,10 +54,6 @@ opens_behind c a i (visits x d is high n few tail o) h = o
 -- an instruction that writes an original register is one of them
 pub writes_straight : (i : Ins) → WritesOriginal i → is_straight (class_of i.kind) ≡ true
 writes_straight i w = ⊎_elim (λ e. ap is_straight e) (λ e. ap is_straight e) w.writes
-
--- a register is open where the code says so
-pub is_open : (c : ℕ → Fetched) (d : Bytes) (u : State) (r : ℕ) → Loaded c d u → Opens c u.pc → IsOpen u (Reg r)
-is_open c d u r ld o = let same : (λ a. fetched_at u.memory u.ranges a) ≡ c = (λ i a. ld.code a i) in ap (λ f. closed_at f u.pc r) same ∙ o r
 
 -- ---- what the step did
 -- it wrote some number

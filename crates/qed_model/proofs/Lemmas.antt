@@ -12,7 +12,7 @@ pub use Rattle.qed_model.proofs.MirrorWords.{pair_reg, renamed_word}
 pub use Rattle.qed_model.proofs.DiverseWords.{encodable, part_has_word, parts_encodable}
 pub use Rattle.qed_model.proofs.ExampleCode.{IsCodeOf, StandFrom, defaults, each_at, is_fine, options, sound, swept}
 pub use Rattle.qed_model.proofs.RangeSegments.{data_inside, data_range, file_end_from, file_end_most, file_end_step, held_in, index_each, index_past, load_among, not_held, not_mixed, range_bytes_fit, range_holds, range_reads, range_sized, range_unexecuted, range_writes}
-pub use Rattle.qed_model.proofs.PieceLaws.{Cut, EachPiece, Empty, Filled, pieces_cut, pieces_whole, sound_most, total, total_lengths}
+pub use Rattle.qed_model.proofs.PieceLaws.{Cut, EachPiece, Empty, Filled, pieces_cut, pieces_whole, run_alone, sound_most, total, total_lengths}
 pub use Rattle.qed_model.proofs.Nearby.{IsNearCode, is_near, is_within, near_constant, near_jump, near_words}
 pub use Rattle.qed_model.proofs.WovenWords.{add_word, branch_imm, branch_word, jump_imm, leap_imm, mirror_load_word, mirror_store_word, near_imm}
 pub use Rattle.qed_model.proofs.BlocksOnly.{Ascend, any_first, ascend_of, blocks_only, body_code, run_prefix, same_tests}

@@ -10,14 +10,14 @@ use Rattle.tests.specs.Admission.Places.{base_of, ElfFile, image_of, half_of, co
 use Rattle.machine.specs.Offsets.{distance_between}
 use Rattle.qed_model.specs.Weave.Placed.{entry_of}
 use Rattle.qed_model.specs.Weave.Blocks.{begins_at}
-use Rattle.qed_model.specs.Weave.Sequences.{Mark, Plain, Item, Form, Block, End, Falls, Stops, compare, visit, original, each_part, leave_as, body_length, stub}
+use Rattle.qed_model.specs.Weave.Sequences.{Mark, Plain, Item, Form, Block, End, Falls, Stops, check_sign, compare, visit, original, each_part, leave_as, body_length, stub}
 use Rattle.qed_model.specs.Weave.Code.{Sequences, sequences, pieces_of, body_of, block_items, entries_of, code_of}
 use Rattle.qed_model.specs.Weave.Forms.{mirror_of, form_of}
-use Rattle.qed_model.specs.Weave.Lean.{tick, call_at, check_sign}
-use Rattle.qed_model.specs.Weave.LeanCode.{Lean, worded, fall_words, lean_of, items_with}
+use Rattle.qed_model.specs.Weave.Lean.{tick, call_at}
+use Rattle.qed_model.specs.Weave.LeanCode.{Lean, is_store, store_part, both_parts, parts_with, worded, fall_words, lean_of, items_with}
 use Rattle.qed_model.specs.Weave.Parts.{joined, Parts, ArePartsOf, pieces_parts, block_parts, entries_parts, parts_to_stub, code_parts, each_parts, last_of, leave_as_parts, leave_parts, parts}
-use Rattle.qed_model.specs.Weave.LeanParts.{worded_parts, leave_as_parts as lean_leave_as, leave_parts as lean_leave}
-use Rattle.qed_model.specs.Weave.Lean.{leave as leave_of, leave_as as leave_in}
+use Rattle.qed_model.specs.Weave.LeanParts.{store_parts, both_parts as both_of, parts_with as with_parts, worded_parts, leave_as_parts as lean_leave_as, leave_parts as lean_leave}
+use Rattle.qed_model.specs.Weave.Lean.{guard_address, guard_value, mirrored_store, leave as leave_of, leave_as as leave_in}
 use Rattle.qed_model.specs.Weave.Sequences.{before_end, leave}
 use Rattle.qed_model.specs.Weave.Woven.{is_far_code, code_as}
 
@@ -73,22 +73,41 @@ parts_are form = record {
   left Falls at = refl
   left (Stops i) at = left_as (class_of i.kind) i at
 
+-- of a piece of the lean form
+both_joined : (diverse : Bool) (is : List Ins) (at : ℕ) → joined (both_of diverse is at) ≡ both_parts diverse is at
+both_joined diverse is at = both (each_parts role.Original original is at) (each_parts role.Mirror (mirror_of diverse) is at) _ _ (each_joined role.Original original is at) (each_joined role.Mirror (mirror_of diverse) is at)
+
+store_joined : (i : Ins) (at : ℕ) → joined (store_parts i at) ≡ store_part i
+store_joined i at = ap (λ l. guard_address i ++ l) (append_assoc (guard_value i) (Plain i ∷ []) (mirrored_store i ∷ []))
+
+piece_joined : (diverse : Bool) (run : List Ins) (at : ℕ) (is : List Ins) → joined (with_parts diverse run at is) ≡ parts_with diverse run at is
+piece_joined diverse run at [] = both_joined diverse run at
+piece_joined diverse run at (i ∷ is) = by (is_store (class_of i.kind)) (piece_joined diverse [] (at + 4 * length run + 4) is) (piece_joined diverse (run ++ (i ∷ [])) at is) where
+  by :
+      (b : Bool) → joined (with_parts diverse [] (at + 4 * length run + 4) is) ≡ parts_with diverse [] (at + 4 * length run + 4) is
+      → joined (with_parts diverse (run ++ (i ∷ [])) at is) ≡ parts_with diverse (run ++ (i ∷ [])) at is
+      → joined (cond b (both_of diverse run at ++ (store_parts i (at + 4 * length run) ++ with_parts diverse [] (at + 4 * length run + 4) is)) (with_parts diverse (run ++ (i ∷ [])) at is))
+      ≡ cond b (both_parts diverse run at ++ (store_part i ++ parts_with diverse [] (at + 4 * length run + 4) is)) (parts_with diverse (run ++ (i ∷ [])) at is)
+  by true e f =
+      both (both_of diverse run at) (store_parts i (at + 4 * length run) ++ with_parts diverse [] (at + 4 * length run + 4) is) _ _ (both_joined diverse run at)
+      (both (store_parts i (at + 4 * length run)) (with_parts diverse [] (at + 4 * length run + 4) is) _ _ (store_joined i (at + 4 * length run)) e)
+  by false e f = f
+
 pub lean_are : (form : Form) (base : ℕ) (entry : ℕ → ℕ) (l : Lean) (leader : ℕ → Bool) → ArePartsOf (worded form base entry l leader) (worded_parts form base entry l leader)
 lean_are form base entry l leader = record {
   first = λ d a. refl;
   enter = λ a.
       let sign : List Item = cond l.land (check_sign a) [] in
-      ap (λ k. Mark a ∷ (sign ++ k)) (append-nil (cond (l.ticks a) (tick (l.most a) (distance_between (entry a + call_at l.land) l.check)) []));
-  piece = λ is at.
-      both (each_parts role.Original original is at) (each_parts role.Mirror (mirror_of l.diverse) is at) _ _ (each_joined role.Original original is at) (each_joined role.Mirror (mirror_of l.diverse) is at);
+      ap (λ k. Mark a ∷ (sign ++ k)) (append-nil (cond (l.ticks a) (tick l.land a (l.most a) (distance_between (entry a + call_at l.land) l.check)) []));
+  piece = λ is at. piece_joined l.diverse [] at is;
   leave = λ e at. left e (l.start_of e at) at;
 } where
-  left_as : (c : Class) (i : Ins) (a at : ℕ) → joined (lean_leave_as form (fall_words leader) c i a at) ≡ leave_in (before_end form) (fall_words leader) c i a at
+  left_as : (c : Class) (i : Ins) (a at : ℕ) → joined (lean_leave_as form l.distance (fall_words leader) c i a at) ≡ leave_in l.distance (before_end form) (fall_words leader) c i a at
   left_as class.End i a at = refl
-  left_as c i a at = append-nil (leave_in (before_end form) (fall_words leader) c i a at)
+  left_as c i a at = append-nil (leave_in l.distance (before_end form) (fall_words leader) c i a at)
 
-  left : (e : End) (a at : ℕ) → joined (lean_leave form (fall_words leader) e a at) ≡ leave_of (before_end form) (fall_words leader) e a at
-  left Falls a at = append-nil (leave_of (before_end form) (fall_words leader) Falls a at)
+  left : (e : End) (a at : ℕ) → joined (lean_leave form l.distance (fall_words leader) e a at) ≡ leave_of l.distance (before_end form) (fall_words leader) e a at
+  left Falls a at = append-nil (leave_of l.distance (before_end form) (fall_words leader) Falls a at)
   left (Stops i) a at = left_as (class_of i.kind) i a at
 
 -- ---- of the new code

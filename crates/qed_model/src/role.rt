@@ -3,7 +3,7 @@
 use rv_isa::Reg;
 
 /// What a word of the new code is for. Addresses are those of the input, in bytes; a comparison is of a register of x1 to x13 with
-/// its pair.
+/// its pair, or of x14 with x30.
 #[derive(Clone, Copy, Debug, PartialEq, Eq)]
 pub enum Role {
     /// It runs first.
@@ -32,12 +32,15 @@ pub enum Role {
     Stub,
     /// In the lean form, at the entry of an address: it counts the steps of the block, or calls the check.
     Tick(u64),
-    /// The one check of the lean form: it takes the signature apart, tests where it was called from, and puts the signature together.
+    /// The one check of the lean form: it compares the signature with the address of the block that goes to it, finds the next data
+    /// word, and begins the count.
     Check,
     /// A comparison in the check.
     CheckCompare(Reg),
     /// The visits of data words in the check.
     CheckVisit,
+    /// Of the check: it looks the entry of the signature up twice, and goes there.
+    LookUp,
     /// It tests before an ECALL whether the signature is that of an address, where the block begins.
     Sign(u64),
 }

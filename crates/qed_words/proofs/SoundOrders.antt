@@ -18,7 +18,7 @@ use Rattle.qed_words.specs.declared.orders.Reason.{Reason}
 use Rattle.qed_words.specs.declared.orders.Reason.TheVariants.{MissingFile, MissingOption, OutOfRange, Split, FewSteps}
 use Rattle.qed_model.specs.Promise.Changed.{Ordered}
 use Rattle.qed_model.specs.Weave.SoundOptions.{AreSoundOptions}
-use Rattle.qed_model.specs.Weave.Bounds.{cost_of, entry_steps}
+use Rattle.qed_model.specs.Weave.LeanBounds.{cost_of, entry_steps}
 use Rattle.tests.specs.Options.{default_options}
 use Rattle.tests.specs.declared.options.Options.{Options}
 use Rattle.tests.specs.declared.options.Entries.{Entries}
@@ -113,7 +113,7 @@ record AreUsual (o : Options) : Type 0 where
   most : o.inst_max ≤ 1024
   visits : 1 ≤ o.round
   few_visits : o.round ≤ 1024
-  lean : IfSome o.lean (λ every. every ≤ 2048)
+  lean : IfSome o.lean (λ every. every ≤ 2047)
 
 usual_fit : (given : List Argument) → AreUsual (usual_options given)
 unfolding usual_options
@@ -130,7 +130,7 @@ entries_fit entry.All most every e = cc
 entries_fit entry.Reached most every e = (refl, let h = (said_first (nat_le every most) (FewSteps most) None e).0 in grind (arith, nat_tests, h))
 
 -- a number of steps that was given, or the usual one
-every_fits : (every : Option ℕ) (usual : ℕ) → IfSome every (IsInRange Every) → usual ≤ 2048 → unwrap_or every usual ≤ 2048
+every_fits : (every : Option ℕ) (usual : ℕ) → IfSome every (IsInRange Every) → usual ≤ 2047 → unwrap_or every usual ≤ 2047
 every_fits None usual fits most = most
 every_fits (Some n) usual fits most = grind (arith, nat_tests)
 
@@ -140,14 +140,14 @@ least_is a b low = omega arith
 lean_fits :
     (o : Options) (every usual : Option ℕ)
     → IfSome every (IsInRange Every)
-    → IfSome usual (λ n. n ≤ 2048)
+    → IfSome usual (λ n. n ≤ 2047)
     → o.inst_max ≤ 1024
     → option_and_then (misfit o.entries (block_steps o)) (option_map (unwrap_or every) usual) ≡ None
-    → IfSome (option_map (unwrap_or every) usual) (λ n. (o.entries ≡ entry.Reached) × (n ≤ 2048) × (entry_steps o.land + 19 + cost_of o.diverse * o.inst_max < n))
+    → IfSome (option_map (unwrap_or every) usual) (λ n. (o.entries ≡ entry.Reached) × (n ≤ 2047) × (entry_steps o.land + 27 + cost_of o.diverse * o.inst_max < n))
 lean_fits o every None fits few most e = tt
 lean_fits o every (Some usual) fits few most e =
     let fit : (o.entries ≡ entry.Reached) × (block_steps o < unwrap_or every usual) = entries_fit o.entries (block_steps o) (unwrap_or every usual) e in
-    (fit.0, every_fits every usual fits few, subst (λ m. entry_steps o.land + 19 + cost_of o.diverse * m < unwrap_or every usual) (least_is o.inst_max 1024 most) fit.1)
+    (fit.0, every_fits every usual fits few, subst (λ m. entry_steps o.land + 27 + cost_of o.diverse * m < unwrap_or every usual) (least_is o.inst_max 1024 most) fit.1)
 
 -- the options that are given are sound, where each value fits, the floor leaves room, and so do the steps from check to check
 options_fit :

@@ -51,7 +51,7 @@ option_of Diverse = once (codes "diverse") Flag
 option_of Results = once (codes "results") Flag
 option_of Reached = once (codes "reached") Flag
 option_of Lean = once (codes "lean") Flag
-option_of Every = once (codes "every") (Number 1 2048)
+option_of Every = once (codes "every") (Number 1 2047)
 option_of Land = once (codes "land") Flag
 
 -- ---- commands

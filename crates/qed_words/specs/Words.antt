@@ -31,7 +31,7 @@ use Rattle.qed_words.specs.declared.keys.Value.TheVariants as value
 use Rattle.qed_words.specs.declared.orders.Reason.{Reason}
 use Rattle.qed_words.specs.declared.orders.Reason.TheVariants.{NoCommand, UnknownCommand, EmptyWord, UnknownOption, Repeated, MissingValue, ExtraWord, MissingFile, MissingOption, BadNumber, BadShape, OutOfRange, Split, AllEntries, FewSteps}
 use Rattle.tests.specs.Options.{default_options}
-use Rattle.qed_model.specs.Weave.Bounds.{cost_of, entry_steps}
+use Rattle.qed_model.specs.Weave.LeanBounds.{cost_of, entry_steps}
 use Rattle.qed_words.specs.Tables.{place_among, option_of, row_of, command_of, key_named}
 use Rattle.texts.specs.Read.{dash, colon, equals, letter_x, number, parted, register}
 use Rattle.qed_model.specs.Promise.Changed.{in_order}
@@ -347,7 +347,7 @@ split_reason given = if is_split (options given) then Some Split else None
 unfoldable pub missing_lean : List Argument → Option Reason
 missing_lean given = if lacks given Lean && not (lacks given Every && lacks given Land) then Some (MissingOption Lean) else None
 
--- the most steps of a block of the lean form: those of its entry, of one piece, which has 1024 instructions at most, and 19 of its leave
+-- the most steps of a block of the lean form: those of its entry, of one piece, which has 1024 instructions at most, and of its leave
 abbrev pub block_steps : Options → ℕ
 block_steps o = entry_steps o.land + LEAN_LEAVE_STEPS + cost_of o.diverse * min o.inst_max 1024
 

@@ -82,7 +82,7 @@ impl Key {
             Key::Results => row!("results", Value::Flag),
             Key::Reached => row!("reached", Value::Flag),
             Key::Lean => row!("lean", Value::Flag),
-            Key::Every => row!("every", Value::Number(1, 2048)),
+            Key::Every => row!("every", Value::Number(1, 2047)),
             Key::Land => row!("land", Value::Flag),
         }
     }

@@ -8,7 +8,7 @@ use crate::given::lacks;
 use crate::options::options;
 use crate::{Key, Reason};
 use qed_model::Entries;
-use qed_model::steps::{LEAN_LEAVE_STEPS, entry_steps, instruction_steps};
+use qed_model::steps::{LEAN_LEAVE_STEPS, entry_steps, lean_instruction_steps};
 
 /// That an option of the lean form is given, and not the form.
 #[tactic(auto, unfolding(crate::specs::Words::missing_lean))]
@@ -27,7 +27,7 @@ pub fn lean_reason(arguments: &[Argument<'_>]) -> Option<Reason>
 {
     let options = options(arguments);
     let every = options.lean?;
-    let cost = instruction_steps(options.diverse);
+    let cost = lean_instruction_steps(options.diverse);
     let most = entry_steps(options.land) + LEAN_LEAVE_STEPS + cost * options.inst_max.min(1024);
     match options.entries {
         Entries::All => Some(Reason::AllEntries),

@@ -40,7 +40,7 @@ IN does twice, and compares. What is printed are the sizes of OUT, and its bound
 --sweep        compares all registers and data words before the end
 --diverse      does the second computation by other instructions
 --lean         compares every so many steps alone, with --entries reached; --inst-max 128, --round 4
---every N      with --lean: the most steps from check to check, 1 to 2048: by default 1200
+--every N      with --lean: the most steps from check to check, 1 to 2047: by default 1200
 --land         with --lean: each entry tests the signature, so that a jump to another entry fires
 
 $ qed transform two_sums.elf out.elf

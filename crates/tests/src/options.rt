@@ -22,7 +22,7 @@ pub enum Entries {
 
 /// The options of a transformation. They are sound where `1 <= inst_min`, `inst_max <= 1024`,
 /// `2 * inst_min <= inst_max + 1`, `1 <= round <= 1024`, and `half` is None or a multiple of 4096 from 4096 to
-/// 536,870,912; and where `lean` is Some, it is at most 2048 and above the most steps of a piece and 21 more, or 26 more where
+/// 536,870,912; and where `lean` is Some, it is at most 2047 and above the most steps of a piece and 30 more, or 33 more where
 /// `land` is set, and `entries` is Reached. Where `lean` is None, `land` has no effect.
 #[derive(Clone, Copy, Debug, PartialEq, Eq)]
 pub struct Options {

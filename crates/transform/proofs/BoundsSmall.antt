@@ -3,7 +3,7 @@ use Rattle.std.proofs.Common.{ℕ, zero, suc, ◌+◌, ◌-◌, ◌*◌, ◌/◌
 use Rattle.std.specs.Prelude.{IfSome}
 use Rattle.std.proofs.Math.Nat.{mul-le-mul, div-le_of_le-mul}
 use Rattle.qed_model.specs.declared.bounds.Shape.{Shape}
-use Rattle.qed_model.specs.Weave.Bounds.{visit_bound, piece_bound, end_bound, start_bound, word_bound, cost_of, entry_steps, bounds_of}
+use Rattle.qed_model.specs.Weave.Bounds.{visit_bound, piece_bound, end_bound, start_bound, word_bound, cost_of, bounds_of}
 use Rattle.qed_model.specs.Weave.LeanBounds as lean
 use Rattle.qed_model.specs.Weave.Pieces.{piece_count}
 use Rattle.bound_calc.specs.Fitting.{AreSmall}
@@ -49,26 +49,26 @@ end_small : (sweep : Bool) (ranges words : ℕ) → ranges ≤ 67108864 → word
 end_small true ranges words r w = omega (arith, r, w)
 end_small false ranges words r w = omega arith
 
-check_small : (words ranges round : ℕ) → ranges ≤ 67108864 → round ≤ 1024 → lean.check_bound words ranges round ≤ 206158437420
+check_small : (words ranges round : ℕ) → ranges ≤ 67108864 → round ≤ 1024 → lean.check_bound words ranges round ≤ 206158437412
 check_small words ranges round r k = let t = times (visit_bound words ranges) round 201326599 1024 (visit_small words ranges r) k in omega (arith, t)
 
-longest_small : (diverse : Bool) (most : ℕ) → most ≤ 1024 → cost_of diverse * most ≤ 8192
+longest_small : (diverse : Bool) (most : ℕ) → most ≤ 1024 → lean.cost_of diverse * most ≤ 8192
 longest_small true most m = omega (arith, m)
 longest_small false most m = omega (arith, m)
 
-entry_small : (land : Bool) → entry_steps land ≤ 7
+entry_small : (land : Bool) → lean.entry_steps land + lean.call_steps land ≤ 7
 entry_small true = omega arith
 entry_small false = omega arith
 
-lean_word_small : (land : Bool) (words round ends period : ℕ) → words ≤ 67108864 → 1 ≤ round → ends ≤ 671088654 → period ≤ 206158439475 → IfSome (lean.word_bound land words round ends period) (λ w. w < 2 ^ 64)
+lean_word_small : (land : Bool) (words round ends period : ℕ) → words ≤ 67108864 → 1 ≤ round → ends ≤ 671088654 → period ≤ 206158439466 → IfSome (lean.word_bound land words round ends period) (λ w. w < 2 ^ 64)
 lean_word_small land zero round ends period w r s p = tt
 lean_word_small land (suc n) round ends period w r s p =
     let few : piece_count round (suc n) ≤ 67108864 = div-le_of_le-mul round (omega (arith, w, r)) in
-    let t = times (piece_count round (suc n) + 1) period 67108865 206158439475 (omega (arith, few)) p in
+    let t = times (piece_count round (suc n) + 1) period 67108865 206158439466 (omega (arith, few)) p in
     omega (arith, t, s, entry_small land)
 
 pub lean_shape_small :
-    (s : Shape) (every : ℕ) → s.inst_max ≤ 1024 → 1 ≤ s.round → s.round ≤ 1024 → s.ranges ≤ 67108864 → s.words ≤ 67108864 → every ≤ 2048 → AreSmall (lean.bounds_of s every)
+    (s : Shape) (every : ℕ) → s.inst_max ≤ 1024 → 1 ≤ s.round → s.round ≤ 1024 → s.ranges ≤ 67108864 → s.words ≤ 67108864 → every ≤ 2047 → AreSmall (lean.bounds_of s every)
 lean_shape_small s every most some round ranges words few =
     let check = check_small s.words s.ranges s.round ranges round in
     let ends = end_small s.sweep s.ranges s.words ranges words in

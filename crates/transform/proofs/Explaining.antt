@@ -11,7 +11,7 @@ use Rattle.tests.specs.Files.File.{File}
 use Rattle.qed_model.specs.Weave.Output.{HasNewCode}
 use Rattle.block_split.specs.declared.block.CodeBlock.{CodeBlock}
 use Rattle.block_split.specs.Listed.{block_of}
-use Rattle.transform.specs.declared.made.Coded.{Coded}
+use Rattle.transform.specs.declared.code.Coded.{Coded}
 use Rattle.weave.specs.Code.{code_begin, IsCut}
 use Rattle.transform.specs.declared.explained.Explained.{Explained}
 use Rattle.transform.specs.Explained.{IsExplained}
@@ -20,7 +20,7 @@ use Rattle.transform.specs.Made.{code_for, IsCoded}
 use Rattle.transform.proofs.Making.{test, size_is}
 
 -- both limits are within the room for the new code
-most_room : (f : ElfFile) (o : Options) (bs : List Block) (l : Option ℕ) → size_of_code (code_as l f o bs) ≤ limit_of (code_as l f o bs).limit → size_of_code (code_as l f o bs) ≤ 67108864
+pub most_room : (f : ElfFile) (o : Options) (bs : List Block) (l : Option ℕ) → size_of_code (code_as l f o bs) ≤ limit_of (code_as l f o bs).limit → size_of_code (code_as l f o bs) ≤ 67108864
 most_room f o bs None few = few
 most_room f o bs (Some every) few = omega (arith, few)
 

@@ -12,6 +12,8 @@ use Rattle.tests.specs.Admission.Places.{base_of, image_of, half_of}
 use Rattle.qed_model.specs.Weave.Sequences.{Block}
 use Rattle.qed_model.specs.Weave.LeanBounds.{lean_bounds}
 use Rattle.qed_model.specs.Weave.Forms.{shape_of}
+use Rattle.qed_model.specs.Weave.Woven.{is_far_code, code_as}
+use Rattle.lean.proofs.Weave.Short.{few_steps}
 use Rattle.tests.proofs.Lemmas.{code_grain}
 use Rattle.tests.specs.Elf.Sound.{AreLoads}
 use Rattle.bound_calc.specs.Fitting.{AreSmall}
@@ -43,15 +45,19 @@ module _ (f : ElfFile) (o : Options) (t : Test) (blocks : List CodeBlock) (cut :
   is_image = admitted_image f o cut.blocked.sound loads cut.blocked.admitted
 
   -- ---- the bounds
-  pub bounds_small : (far : Bool) → AreSmall (bounds_of (shape_of f o far))
+  bounds_small : (far : Bool) → AreSmall (bounds_of (shape_of f o far))
   bounds_small far =
       let few = few_data f o cut.blocked.sound loads cut.blocked.admitted in
       shape_small (shape_of f o far) cut.blocked.sound.most cut.blocked.sound.visits cut.blocked.sound.few_visits few.ranges few.words
 
-  pub lean_bounds_small : (every : ℕ) → every ≤ 2048 → AreSmall (lean_bounds f o every)
+  lean_bounds_small : (every : ℕ) → every ≤ 2047 → AreSmall (lean_bounds f o every)
   lean_bounds_small every few_steps =
       let few = few_data f o cut.blocked.sound loads cut.blocked.admitted in
       lean_shape_small (shape_of f o false) every cut.blocked.sound.most cut.blocked.sound.visits cut.blocked.sound.few_visits few.ranges few.words few_steps
+
+  pub small : (l : Option ℕ) → o.lean ≡ l → AreSmall (code_as l f o bs).bounds
+  small None none = bounds_small (is_far_code f o bs)
+  small (Some every) some = lean_bounds_small every (few_steps f o every cut.blocked.sound some)
 
   -- ---- the blocks
   bounded : (a : ℕ) → is_code f a ≡ true → (base_of image ≤ a) × (a + 4 ≤ base_of image + d)

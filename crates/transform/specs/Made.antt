@@ -11,7 +11,7 @@ use Rattle.qed_model.specs.Weave.Woven.{NewCode, new_code, size_of_code, entries
 use Rattle.block_split.specs.declared.block.CodeBlock.{CodeBlock}
 use Rattle.block_split.specs.Listed.{block_of}
 use Rattle.weave_core.specs.Tests.{IsTest}
-use Rattle.transform.specs.declared.made.Coded.{Coded}
+use Rattle.transform.specs.declared.code.Coded.{Coded}
 use Rattle.transform.specs.declared.error.TransformError.{TransformError}
 use Rattle.transform.specs.declared.error.TransformError.TheVariants as error
 
@@ -19,11 +19,10 @@ use Rattle.transform.specs.declared.error.TransformError.TheVariants as error
 abbrev pub code_for : ElfFile → Options → List CodeBlock → NewCode
 code_for f o blocks = new_code f o (map block_of blocks)
 
--- these are its words and entries, which are within the limit, in the near or in the far form, with the table or without, and its bounds
+-- these are its words and entries, which are within the limit, with the table or without, and its bounds
 pub record IsCoded (c : NewCode) (f : ElfFile) (o : Options) (made : Coded) : Type 0 where
   pub code : IsCodeFor c f o made.linked.words.items
   pub entries : made.linked.entries.items ≡ entries_in c f o
-  pub far : made.far ≡ c.far
   pub table : made.table ≡ c.table
   pub bounds : made.bounds ≡ c.bounds
   pub few : size_of_code c ≤ limit_of c.limit

@@ -19,7 +19,7 @@ take_fits zero is f = tt
 take_fits (suc n) [] f = tt
 take_fits (suc n) (i ∷ is) f = (f.0, take_fits n is f.1)
 
-drop_fits : (n : ℕ) (is : List Ins) → AllFit is → AllFit (drop n is)
+pub drop_fits : (n : ℕ) (is : List Ins) → AllFit is → AllFit (drop n is)
 drop_fits zero is f = f
 drop_fits (suc n) [] f = tt
 drop_fits (suc n) (i ∷ is) f = drop_fits n is f.1

@@ -14,24 +14,24 @@ use Rattle.tests.specs.Admission.DataRanges.{range_of, ElfFile}
 use Rattle.tests.specs.Admission.Places.{image_of, half_of, code_place}
 use Rattle.qed_model.specs.Weave.Sequences.{Block, stub}
 use Rattle.qed_model.specs.Weave.Woven.{items_in, is_far_code, code_size, new_entries, compared}
-use Rattle.qed_model.specs.Weave.Parts.{parts, code_parts, role_rows}
+use Rattle.qed_model.specs.Weave.Parts.{parts, code_parts}
 use Rattle.qed_model.proofs.Lemmas.{size-append}
 use Rattle.block_split.specs.declared.block.CodeBlock.{CodeBlock}
 use Rattle.block_split.specs.Listed.{block_of}
 use Rattle.plc_rounds.specs.Spans.{spans_of}
 use Rattle.relinker.specs.declared.error.LinkError.{LinkError}
 use Rattle.relinker.specs.declared.error.LinkError.TheVariants as error
-use Rattle.weave.specs.declared.code.WovenCode.{WovenCode}
+use Rattle.relinker.specs.declared.layout.Linked.{Linked}
 use Rattle.weave.specs.declared.weaver.Weaver.{Weaver}
 use Rattle.relinker.specs.Counted.{capped}
 use Rattle.relinker.specs.Laid.{IsLinked, HasLinkCause}
 use Rattle.relinker.specs.Link.{is_encoded, most_bytes, IsWithinForm, LinksWithin}
 use Rattle.relinker.proofs.Joining.{parts_join}
 use Rattle.relinker.proofs.Linkable.{decoded, ascending}
-use Rattle.weave.specs.Form.{form, form_with, items_to_stub}
+use Rattle.weave.specs.Form.{form, form_with, kind, items_to_stub}
 use Rattle.weave.proofs.WholeCode.{items_are_whole, spans_are}
 use Rattle.weave_core.proofs.Lemmas.{are_rows, tests_have_words}
-use Rattle.weave.specs.Code.{items_of, code_begin, IsCut, IsCodeOf, HasCause}
+use Rattle.weave.specs.Code.{items_of, code_begin, IsCut, IsWoven, HasCause}
 use Rattle.weave.proofs.CodeBytes.{few_bytes}
 use Rattle.weave.proofs.DataWords.{few_data}
 
@@ -95,17 +95,21 @@ module _ (f : ElfFile) (o : Options) (t : Test) (blocks : List CodeBlock) (cut :
 
   -- and what is linked is the new code of the test
   pub code_of :
-      (far : Bool) (made : WovenCode) → made.far ≡ far → is_far_code f o bs ≡ far → IsWithinForm far (items_of t o far blocks) → IsLinked far (code_begin t) (items_of t o far blocks) made.linked
-      → IsCodeOf f o blocks made
-  code_of far made same e h l = record {
-    far = same ∙ sym e;
-    code = record { small = l.words; code = subst (Decode made.linked.words.items) (sym (instructions far e)) l.decode };
+      (far : Bool) (w : Weaver) (linked : Linked) → form w ≡ form_with (spans_of t.span) o far → is_far_code f o bs ≡ far → IsWithinForm far (items_of t o far blocks)
+      → IsLinked far (code_begin t) (items_of t o far blocks) linked → IsWoven (compared f o bs) f o t blocks (kind w) (parts (form w)) (λ b. Unit {0}) linked
+  code_of far w linked same e h l = record {
+    code = record { small = l.words; code = subst (Decode linked.words.items) (sym (instructions far e)) l.decode };
     entries = l.entries ∙ sym (entries far e);
     few = few far e h;
+    own = λ k b less. tt;
+    parts = λ i. code_parts (parts ((same ∙ (λ j. form_with ((spans_are t.span ∙ cut.told.span) j) o ((sym e) j))) i)) (cut.told.distance i) (cut.told.entry i) bs;
+    far = ap (λ x. x.far) same ∙ sym e;
+    table = refl;
+    bounds = refl;
   }
 
   -- why it is not
-  pub cause_of : (far : Bool) (x : LinkError) → is_far_code f o bs ≡ far → HasLinkCause far (items_of t o far blocks) x → far ≡ true → HasCause f o blocks x
+  pub cause_of : (far : Bool) (x : LinkError) → is_far_code f o bs ≡ far → HasLinkCause far (items_of t o far blocks) x → far ≡ true → HasCause (compared f o bs) x
   cause_of far (error.TooLarge n) e c is_far =
       let b = cut.blocked in
       let exact = few_bytes f o b.sound b.file.loads b.admitted bs b.are in
@@ -129,16 +133,9 @@ module _ (f : ElfFile) (o : Options) (t : Test) (blocks : List CodeBlock) (cut :
       (cases_lt 1048576 n)
 
   -- why the form that is taken is not written
-  pub cause : (far : Bool) (x : LinkError) → is_far_code f o bs ≡ far → HasLinkCause far (items_of t o far blocks) x → HasCause f o blocks x
+  pub cause : (far : Bool) (x : LinkError) → is_far_code f o bs ≡ far → HasLinkCause far (items_of t o far blocks) x → HasCause (compared f o bs) x
   cause true x e c = cause_of true x e c refl
   cause false (error.TooLarge n) e c = absurd (true_false (sym (far_taken (λ h. omega (arith, c.0, c.1, h))) ∙ e)) where
     true_false : true ≡ false → ⊥
     true_false h = cc
   cause false error.Memory e c = tt
-
-  -- ---- what a weaver of this form makes is for what the file says
-  pub roles_are :
-      (w : Weaver) (far : Bool) → form w ≡ form_with (spans_of t.span) o far → far ≡ is_far_code f o bs
-      → role_rows far (code_parts (parts (form w)) t.distance t.entry bs) ≡ role_rows far (compared f o bs).parts
-  roles_are w far same taken = λ i.
-      role_rows far (code_parts (parts ((same ∙ (λ j. form_with ((spans_are t.span ∙ cut.told.span) j) o (taken j))) i)) (cut.told.distance i) (cut.told.entry i) bs)

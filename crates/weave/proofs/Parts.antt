@@ -1,5 +1,5 @@
 -- The parts of a block: those of each instruction of a piece, and of a leave.
-use Rattle.std.proofs.Common.{◌≡◌, ℕ, ◌+◌, ◌*◌, ◌<◌, cond, Option, Some, None, List, [], ◌∷◌, ◌++◌, length, map, drop, get_or, refl, ap, ◌∙◌}
+use Rattle.std.proofs.Common.{◌≡◌, ℕ, ◌+◌, ◌*◌, ◌<◌, cond, Option, Some, None, List, [], ◌∷◌, ◌++◌, length, map, drop, get_or, refl, sym, ap, ◌∙◌}
 use Rattle.std.proofs.lemmas.List.{drop_more}
 use Rattle.rv_isa.specs.declared.class.Class.{Class}
 use Rattle.rv_isa.specs.declared.class.Class.TheVariants as class
@@ -31,12 +31,15 @@ each_alike of part other e (i ∷ is) at =
     ap (λ l. (of at, l) ∷ each_parts of part is (at + 4)) (e i at) ∙ ap (λ l. (of at, other i at) ∷ l) (each_alike of part other e is (at + 4))
 
 -- ---- a leave
-pub leave_split : (form : Form) (e : Option Ins) (at : ℕ) → leave_parts form (end_of e) at ≡ before_parts form e ++ ((role.Leave at, last_items form e at) ∷ [])
-leave_split form None at = refl
-leave_split form (Some i) at = by (class_of i.kind) where
+here : (form : Form) (e : Option Ins) (at : ℕ) → leave_parts form (end_of e) at ≡ before_parts form e ++ ((role.Leave at, last_items form e at) ∷ [])
+here form None at = refl
+here form (Some i) at = by (class_of i.kind) where
   by : (c : Class) → leave_as_parts form c i at ≡ cond (is_end_as c) ((role.Sweep, before_end form) ∷ []) [] ++ ((role.Leave at, last_as form c i at) ∷ [])
   by class.End = refl
   by c = refl
+
+pub leave_split : (form : Form) (e : Option Ins) (end at : ℕ) → at ≡ end → leave_parts form (end_of e) end ≡ before_parts form e ++ ((role.Leave at, last_items form e at) ∷ [])
+leave_split form e end at same = ap (leave_parts form (end_of e)) (sym same) ∙ here form e at
 
 -- ---- blocks
 pub block_is :

@@ -1,13 +1,14 @@
 -- The form of the code that a weaver makes, and what it makes of blocks.
-use Rattle.std.specs.Prelude.{ℕ, Bool, List, ◌++◌, is_some}
+use Rattle.std.specs.Prelude.{ℕ, Bool, false, List, ◌++◌, is_some}
 use Rattle.tests.specs.declared.options.Options.{Options}
 use Rattle.qed_model.specs.declared.item.Item.{Item}
 use Rattle.qed_model.specs.Weave.Sequences.{Form, Block}
 use Rattle.qed_model.specs.Weave.Code.{Sequences, entries_of, sequences}
-use Rattle.qed_model.specs.Weave.Bounds.{cost_of}
+use Rattle.qed_model.specs.Weave.Bounds.{bounds_of, cost_of}
 use Rattle.qed_model.specs.Weave.Forms.{mirror_of}
 use Rattle.plc_rounds.specs.Spans.{spans_of}
 use Rattle.weave.specs.declared.weaver.Weaver.{Weaver}
+use Rattle.weave.specs.Kind.{CodeKind}
 
 -- the form of code with these ranges and options
 abbrev pub form_with : List (ℕ × ℕ) → Options → Bool → Form
@@ -23,6 +24,9 @@ form w = record {
   mirror = mirror_of w.pieces.second.first.pass.diverse;
   cost = cost_of w.pieces.second.first.pass.diverse;
 }
+
+abbrev pub kind : Weaver → CodeKind
+kind w = record { far = w.far; table = false; bounds = bounds_of }
 
 -- the new code up to the stub: what runs first, and the entries of the blocks
 abbrev pub code_to_stub : Sequences → ℕ → ℕ → List Block → List Item

@@ -7,4 +7,5 @@ pub mod Code
 pub mod Sizes
 pub mod Handed
 pub mod Halves
+pub mod Kind
 pub mod Leaves

@@ -1,17 +1,17 @@
 //! The new code, in the near form where that fits, else in the far form.
-ghost use Rattle.std.specs.Prelude.{◌≡◌, ◌+◌, ◌*◌, ◌^◌, ◌<◌, ◌≤◌, ℕ, [], List, All, IfOk, IfErr, length, map};
+ghost use Rattle.std.specs.Prelude.{◌≡◌, ◌+◌, ◌*◌, ◌^◌, ◌<◌, ◌≤◌, ℕ, [], All, IfOk, IfErr, length, map};
 ghost use Rattle.elf_types.specs.declared.file.ElfFile.{ElfFile};
-ghost use Rattle.block_split.specs.declared.block.CodeBlock.{CodeBlock};
 ghost use Rattle.block_split.specs.Listed.{block_of};
 ghost use Rattle.machine.specs.declared.limits.TheConstants.{CODE_ROOM};
-ghost use Rattle.qed_model.specs.Weave.Parts.{code_parts, role_rows};
+ghost use Rattle.qed_model.specs.Weave.Parts.{parts, code_parts, role_rows};
 ghost use Rattle.qed_model.specs.Weave.Woven.{compared, is_far_code};
 ghost use Rattle.relinker.specs.Counted.{HasCounted};
 ghost use Rattle.relinker.specs.Laid.{IsLaid, IsLinked, HasLinkCause};
 ghost use Rattle.relinker.specs.Link.{IsWithinForm, LinksWithin};
 ghost use Rattle.weave.specs.Fits.{FitsBlock};
-ghost use Rattle.weave.specs.Form.{code_to_stub};
-ghost use Rattle.weave.specs.Code.{items_of, handed_on, code_begin, IsCut, IsCodeOf, HasCause};
+ghost use Rattle.weave.specs.Form.{code_to_stub, form, form_with, kind};
+ghost use Rattle.plc_rounds.specs.Spans.{spans_of};
+ghost use Rattle.weave.specs.Code.{items_of, code_begin, IsCut, IsWoven, HasCause};
 
 use crate::count::counted_by_blocks;
 use crate::size::code_size;
@@ -22,22 +22,22 @@ use qed_model::{Options, RoleRow, Test};
 use relinker::{Count, Layout, LinkError, Linked, Roles, lay};
 use std::alloc::{AllocError, Global};
 
-/// Counts the items of new code, in the near or in the far form.
+/// Counts the items of new code.
 ///
 /// Errors: want of memory.
 pub fn counted<W: Weaving>(
     alloc: Global,
     weaver: &W,
-    far: bool,
     test: &Test,
     blocks: &[CodeBlock],
 ) -> Result<Count, AllocError>
     requires half { test.now.distance < 2 ^ 63 }
     requires fit { All FitsBlock blocks.now }
     requires own { All (W.is_for weaver.now) blocks.now }
-    ensures form { IfOk result (λ count. count.far ≡ far) }
+    ensures form { IfOk result (λ count. count.far ≡ (W.kind weaver.now).far) }
     ensures counted { IfOk result (λ count. HasCounted count (code_to_stub (W.code weaver.now) test.now.distance test.now.entry (map block_of blocks.now))) }
 {
+    let far = weaver.far();
     let count = weave(alloc, weaver, test, blocks, Count::new(alloc, far))?;
     Ok(count)
 }
@@ -62,32 +62,25 @@ pub fn written<W: Weaving>(
     Ok(layout.finish())
 }
 
-/// What the words of new code are for, in the near or in the far form: how many bytes have which role, as they stand one behind
-/// the other from the first word on.
+/// What the words of new code are for: how many bytes have which role, as they stand one behind the other from the first word
+/// on.
 ///
 /// Errors: want of memory.
 pub fn roles<W: Weaving>(
     alloc: Global,
     weaver: &W,
-    far: bool,
     test: &Test,
     blocks: &[CodeBlock],
 ) -> Result<Vec<RoleRow>, AllocError>
     requires half { test.now.distance < 2 ^ 63 }
     requires fit { All FitsBlock blocks.now }
     requires own { All (W.is_for weaver.now) blocks.now }
-    ensures { IfOk result (λ rows. rows.items ≡ role_rows far (code_parts (W.parts weaver.now) test.now.distance test.now.entry (map block_of blocks.now))) }
+    ensures { IfOk result (λ rows. rows.items ≡ role_rows (W.kind weaver.now).far (code_parts (W.parts weaver.now) test.now.distance test.now.entry (map block_of blocks.now))) }
 {
+    let far = weaver.far();
     let roles = weave(alloc, weaver, test, blocks, Roles::new(alloc, far))?;
     let rows = roles.finish()?;
     Ok(rows)
-}
-
-/// The passes of the code in one form.
-fn weaver(alloc: Global, test: &Test, options: &Options, far: bool) -> Result<Weaver, AllocError>
-    ensures { IfOk result (λ weaver. (blocks : List CodeBlock) → handed_on weaver test.now blocks ≡ items_of test.now options.now far blocks) }
-{
-    Weaver::new(alloc, &test.span, options, far)
 }
 
 /// Takes the memory for the code, which is counted.
@@ -113,11 +106,11 @@ fn laid_out(
     lay(alloc, count, test.base + 3 * test.distance)
 }
 
-/// The new code of a test: its words and entries, and whether it has the far form.
-#[derive(Debug, Drop)]
-pub struct WovenCode {
+/// The new code of a test: its words and entries, and what made them.
+#[derive(Drop)]
+pub struct Woven<W> {
+    pub weaver: W,
     pub linked: Linked,
-    pub far: bool,
 }
 
 /// The code in one form.
@@ -127,21 +120,21 @@ fn code_in(
     options: &Options,
     blocks: &[CodeBlock],
     far: bool,
-) -> Result<WovenCode, LinkError>
+) -> Result<Woven<Weaver>, LinkError>
     requires room { code_begin test.now + CODE_ROOM ≤ 2 ^ 63 }
     requires visits { options.now.round ≤ 1024 }
     requires ranges { length test.now.span ≤ 67_108_864 }
     requires fit { All FitsBlock blocks.now }
     requires links { LinksWithin far (code_begin test.now) (items_of test.now options.now far blocks.now) }
-    ensures form { IfOk result (λ made. made.far ≡ far) }
+    ensures weaver { IfOk result (λ made. form made.weaver ≡ form_with (spans_of test.now.span) options.now far) }
     ensures linked { IfOk result (λ made. IsLinked far (code_begin test.now) (items_of test.now options.now far blocks.now) made.linked) }
     ensures fits { IfOk result (λ _. IsWithinForm far (items_of test.now options.now far blocks.now)) }
     ensures cause { IfErr result (HasLinkCause far (items_of test.now options.now far blocks.now)) }
 {
     let layout = laid_out(alloc, test, options, far, blocks)?;
-    let weaver = weaver(alloc, test, options, far)?;
+    let weaver = Weaver::new(alloc, &test.span, options, far)?;
     let linked = written(alloc, &weaver, layout, test, blocks)?;
-    Ok(WovenCode { linked, far })
+    Ok(Woven { weaver, linked })
 }
 
 /// Whether the near form has more bytes than it may have.
@@ -161,29 +154,11 @@ pub fn woven_code(
     test: &Test,
     options: &Options,
     blocks: &[CodeBlock],
-) -> Result<WovenCode, LinkError>
+) -> Result<Woven<Weaver>, LinkError>
     requires { (f : ElfFile) × IsCut f options.now test.now blocks.now }
-    ensures code { IfOk result (λ code. (f : ElfFile) → IsCut f options.now test.now blocks.now → IsCodeOf f options.now blocks.now code) }
-    ensures cause { IfErr result (λ e. (f : ElfFile) → IsCut f options.now test.now blocks.now → HasCause f options.now blocks.now e) }
+    ensures code { IfOk result (λ woven. (f : ElfFile) → IsCut f options.now test.now blocks.now → IsWoven (compared f options.now (map block_of blocks.now)) f options.now test.now blocks.now (kind woven.weaver) (parts (form woven.weaver)) (λ b. Unit {0}) woven.linked) }
+    ensures cause { IfErr result (λ e. (f : ElfFile) → IsCut f options.now test.now blocks.now → HasCause (compared f options.now (map block_of blocks.now)) e) }
 {
     let far = is_far(test, options, blocks);
     code_in(alloc, test, options, blocks, far)
-}
-
-/// What the words of the new code of an admitted test are for, where it is far code or not.
-///
-/// Errors: want of memory.
-pub fn code_roles(
-    alloc: Global,
-    test: &Test,
-    options: &Options,
-    blocks: &[CodeBlock],
-    far: bool,
-) -> Result<Vec<RoleRow>, AllocError>
-    requires { (f : ElfFile) × IsCut f options.now test.now blocks.now }
-    ensures { IfOk result (λ rows. (f : ElfFile) → IsCut f options.now test.now blocks.now → far ≡ is_far_code f options.now (map block_of blocks.now) → rows.items ≡ role_rows far (compared f options.now (map block_of blocks.now)).parts) }
-{
-    let weaver = Weaver::new(alloc, &test.span, options, far)?;
-    let rows = roles(alloc, &weaver, far, test, blocks)?;
-    Ok(rows)
 }

@@ -1,12 +1,18 @@
 //! The instructions of a piece, one after the other.
-ghost use Rattle.std.specs.Prelude.{◌≡◌, ◌+◌, ◌*◌, ◌^◌, ◌<◌, ℕ, OnOk, length};
+ghost use Rattle.std.specs.Prelude.{◌≡◌, ◌+◌, ◌*◌, ◌^◌, ◌<◌, ◌++◌, ℕ, OnOk, length};
 ghost use Rattle.rv_isa.specs.declared.ins.Ins.{Ins};
+ghost use Rattle.qed_model.specs.declared.role.Role.TheVariants as role;
+ghost use Rattle.qed_model.specs.Weave.Forms.{mirror_of};
 ghost use Rattle.qed_model.specs.Weave.Parts.{each_parts, last_of as last_of_list};
+ghost use Rattle.qed_model.specs.Weave.Sequences.{original};
 ghost use Rattle.weave_core.specs.Blocks.{AllFit, FitsPiece};
 ghost use Rattle.weave.specs.Handed.{Comes, Handed};
 ghost use Rattle.weave.specs.Halves.{half_role};
 
 use crate::PartSink;
+use eddi_dup::Original;
+use guard_insert::Guarded;
+use mirror_forms::Mirror;
 use passes::Pass;
 use qed_model::Role;
 use relinker::ItemSink;
@@ -15,7 +21,7 @@ use std::alloc::AllocError;
 
 /// The half on which an instruction of a piece runs.
 #[derive(Clone, Copy)]
-pub enum Half {
+enum Half {
     Original,
     Mirror,
 }
@@ -36,7 +42,7 @@ impl Half {
 ///
 /// Errors: want of memory.
 #[tactic(auto, using(crate::proofs::Taking::begun, crate::proofs::Taking::ended))]
-pub fn weave_each<P: Pass, S: ItemSink>(
+fn weave_each<P: Pass, S: ItemSink>(
     pass: &P,
     half: Half,
     list: &[Ins],
@@ -55,6 +61,26 @@ pub fn weave_each<P: Pass, S: ItemSink>(
         to.end(half.role(at))?;
         at += 4;
     }
+    Ok(())
+}
+
+/// Hands on the original parts of a list, and behind them its mirror parts. The first instruction stands at an input address.
+///
+/// Errors: want of memory.
+pub fn weave_halves<S: ItemSink>(
+    mirrors: &Mirror,
+    list: &[Ins],
+    at: u64,
+    to: &mut PartSink<S>,
+) -> Result<(), AllocError>
+    requires fits { AllFit list.now }
+    requires low { at + 4 * length list.now < 2 ^ 64 }
+    requires come { Comes (S.took to.old.sink) to.old.items (each_parts role.Original original list.now at ++ each_parts role.Mirror (mirror_of mirrors.now.diverse) list.now at) }
+    ensures { OnOk result (Handed (S.took to.old.sink) (S.took to.new.sink) to.new.items (each_parts role.Original original list.now at ++ each_parts role.Mirror (mirror_of mirrors.now.diverse) list.now at)) }
+{
+    let originals = Guarded { pass: Original };
+    weave_each(&originals, Half::Original, list, at, to)?;
+    weave_each(mirrors, Half::Mirror, list, at, to)?;
     Ok(())
 }
 

@@ -1,13 +1,14 @@
 //! How a block is left.
-ghost use Rattle.std.specs.Prelude.{◌≡◌, ◌++◌, OnOk};
+ghost use Rattle.std.specs.Prelude.{◌≡◌, ◌+◌, ◌*◌, ◌++◌, OnOk, length};
 ghost use Rattle.rv_isa.specs.Kind.{class_of};
 ghost use Rattle.qed_model.specs.Weave.Sequences.{before_end};
-ghost use Rattle.weave.specs.Fits.{FitsEnd, FitsLeave};
+ghost use Rattle.weave.specs.Fits.{FitsBlock, FitsEnd, FitsLeave};
 ghost use Rattle.weave.specs.Form.{form};
 ghost use Rattle.weave.specs.Handed.{Comes, Handed};
 ghost use Rattle.weave.specs.Leaves.{before_parts, last_as, last_items, is_end as ends};
 
 use crate::{PartSink, Weaver};
+use block_split::CodeBlock;
 use end_sweep::put_checks;
 use flow_tracking::Leave;
 use passes::{Emit, Pass};
@@ -24,6 +25,14 @@ pub fn is_end(end: &Option<Ins>) -> bool
         Some(ins) => ins.class() == Class::End,
         None => false,
     }
+}
+
+/// The input address at which a block has its end, or to which it falls.
+pub fn end_address(block: &CodeBlock) -> u64
+    requires { FitsBlock block.now }
+    ensures { result ≡ block.now.start + 4 * length block.now.body }
+{
+    block.start + 4 * block.body.as_slice().len() as u64
 }
 
 impl Weaver {

@@ -18,9 +18,9 @@ mod walk;
 mod weaver;
 mod weaving;
 
-pub use code::{WovenCode, code_roles, counted, roles, woven_code, written};
-pub use each::{Half, weave_each};
-pub use leave::is_end;
+pub use code::{Woven, counted, roles, woven_code, written};
+pub use each::weave_halves;
+pub use leave::{end_address, is_end};
 pub use make::copied;
 pub use part::PartSink;
 pub use pieces::{Piece, piece, woven_piece};

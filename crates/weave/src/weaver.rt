@@ -3,13 +3,14 @@ ghost use Rattle.std.specs.Prelude.{◌≡◌};
 ghost use Rattle.std.specs.Option.{ForSome};
 ghost use Rattle.plc_rounds.specs.Spans.{spans_of};
 
-use crate::each::{last_of, weave_each};
-use crate::{Half, PartSink, Piece, Weaving};
+use crate::each::{last_of, weave_halves};
+use crate::leave::end_address;
+use crate::{PartSink, Piece, Weaving};
 use block_split::CodeBlock;
 use end_sweep::Sweep;
 use flow_tracking::Entry;
 use passes::{Pass, PassAll};
-use qed_model::Role;
+use qed_model::{Bounds, Limit, Role, Shape};
 use relinker::ItemSink;
 use rv_isa::Ins;
 use std::alloc::AllocError;
@@ -27,13 +28,34 @@ impl Weaving for Weaver {
     ghost use Rattle.qed_model.specs.Weave.Code.{sequences};
     ghost use Rattle.qed_model.specs.Weave.Parts.{parts};
     ghost use Rattle.qed_model.proofs.Lemmas.{parts_are};
-    ghost use Rattle.weave.specs.Form.{form};
+    ghost use Rattle.machine.specs.declared.limits.Limit.TheVariants as limits;
+    ghost use Rattle.weave.specs.Form.{form, kind};
+
+    ghost limit = { limits.CodeBytes };
 
     ghost code = { λ w. sequences (form w) };
 
     ghost parts = { λ w. parts (form w) };
 
+    ghost kind = { λ w. kind w };
+
     ghost is_for = { λ w b. Unit {0} };
+
+    fn limit() -> Limit {
+        Limit::CodeBytes
+    }
+
+    fn far(&self) -> bool {
+        self.far
+    }
+
+    fn table(&self) -> bool {
+        false
+    }
+
+    fn bounds(&self, shape: &Shape) -> Option<Bounds> {
+        bound_calc::bounds(shape)
+    }
 
     fn first<S: ItemSink>(
         &self,
@@ -62,8 +84,7 @@ impl Weaving for Weaver {
         at: u64,
         to: &mut PartSink<S>,
     ) -> Result<(), AllocError> {
-        weave_each(&self.pieces.first.pass, Half::Original, list, at, to)?;
-        weave_each(&self.pieces.second.first.pass, Half::Mirror, list, at, to)?;
+        weave_halves(&self.pieces.second.first.pass, list, at, to)?;
         self.pieces.second.second.emit_all(list, at, &mut to.items)?;
         to.end(Role::Visit(at, last_of(list, at)))?;
         Ok(())
@@ -74,7 +95,7 @@ impl Weaving for Weaver {
         block: &CodeBlock,
         to: &mut PartSink<S>,
     ) -> Result<(), AllocError> {
-        let at = block.start + 4 * block.body.as_slice().len() as u64;
+        let at = end_address(block);
         self.before_end(&block.end, to)?;
         self.leave_at(&block.end, at, &mut to.items)?;
         to.end(Role::Leave(at))?;

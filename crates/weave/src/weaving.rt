@@ -1,5 +1,7 @@
 //! What makes the parts of new code.
-ghost use Rattle.std.specs.Prelude.{◌≡◌, ◌+◌, ◌*◌, ◌^◌, ◌<◌, OnOk, length};
+ghost use Rattle.std.specs.Prelude.{◌≡◌, ◌+◌, ◌*◌, ◌^◌, ◌<◌, ◌≤◌, OnOk, length};
+ghost use Rattle.std.specs.Option.{SomeIff};
+ghost use Rattle.bound_calc.specs.Fitting.{AreSmall};
 ghost use Rattle.weave_core.specs.Blocks.{AllFit};
 ghost use Rattle.block_split.specs.Listed.{end_of};
 ghost use Rattle.weave.specs.Fits.{FitsBlock};
@@ -7,6 +9,7 @@ ghost use Rattle.weave.specs.Handed.{Comes, Handed};
 
 use crate::PartSink;
 use block_split::CodeBlock;
+use qed_model::{Bounds, Limit, Shape};
 use relinker::ItemSink;
 use rv_isa::Ins;
 use std::alloc::AllocError;
@@ -15,10 +18,14 @@ use std::alloc::AllocError;
 ///
 /// Errors: want of memory. What was handed on then is not told.
 pub trait Weaving {
-    ghost use Rattle.std.specs.Prelude.{Bool};
+    ghost use Rattle.machine.specs.declared.limits.Limit.{Limit};
     ghost use Rattle.qed_model.specs.Weave.Code.{Sequences};
     ghost use Rattle.qed_model.specs.Weave.Parts.{Parts, ArePartsOf};
     ghost use Rattle.block_split.specs.declared.block.CodeBlock.{CodeBlock};
+    ghost use Rattle.weave.specs.Kind.{CodeKind};
+
+    // The limit on the bytes of the code.
+    ghost limit: { Limit };
 
     // The sequences that it makes.
     ghost code: { Self → Sequences };
@@ -26,8 +33,28 @@ pub trait Weaving {
     // Their parts.
     ghost parts: { Self → Parts };
 
+    // What its code is besides.
+    ghost kind: { Self → CodeKind };
+
     // The blocks that it is for, of those that fit.
     ghost is_for: { Self → CodeBlock → Type 0 };
+
+    /// The limit on the bytes of the code.
+    fn limit() -> Limit
+        ensures { result ≡ limit };
+
+    /// Whether it makes far code.
+    fn far(&self) -> bool
+        ensures { result ≡ (kind self.now).far };
+
+    /// Whether the output has a table even if no block ends with a JALR.
+    fn table(&self) -> bool
+        ensures { result ≡ (kind self.now).table };
+
+    /// The bounds of the output, in steps. None exactly where one of them is 2^64 or above.
+    fn bounds(&self, shape: &Shape) -> Option<Bounds>
+        requires { 1 ≤ shape.now.round }
+        ensures { SomeIff result (AreSmall ((kind self.now).bounds shape.now)) ((kind self.now).bounds shape.now) };
 
     /// Hands on what runs first, with the distance of the halves in bytes and the input address of the test's entry.
     fn first<S: ItemSink>(

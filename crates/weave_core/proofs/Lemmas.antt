@@ -3,13 +3,13 @@ pub use Rattle.weave_core.proofs.Rows.{compute_walk, flagged_moved, halved_moved
 pub use Rattle.weave_core.proofs.Sized.{sized_step, small_put, width_le}
 pub use Rattle.weave_core.proofs.Words.{all_small, compare_stands}
 pub use Rattle.weave_core.proofs.Source.{has_front, not_trapped_front, not_trapped_le, source_run, steady_le, steady_rest}
-pub use Rattle.weave_core.proofs.Leaves.{branch_passed, branch_taken, end_walk, equal_holds, go_most, go_walk, halved_gone, jump_step, jumped_to, links_as, no_code, step-branch, step-break, step-end, step-illegal, step-jump}
+pub use Rattle.weave_core.proofs.Leaves.{branch_passed, branch_taken, end_walk, equal_holds, go_most, go_walk, halved_gone, jump_step, jumped_to, links_as, no_code, own_signed, sign_walk, step-branch, step-break, step-end, step-illegal, step-jump}
 pub use Rattle.weave_core.proofs.Branch.{Branches, Passes, branch_step, branch_to, guard_pass, own_pair, pass_none, pass_on}
 pub use Rattle.weave_core.proofs.Sets.{AllTemps, Sets, halved_writes, writes, writes_long, writes_out}
 unfoldable pub use Rattle.weave_core.proofs.Sets.{sets_compute, sets_const, sets_equal, sets_on}
-pub use Rattle.weave_core.proofs.Visit.{add_result, checked_behind, cursor_decided, cursor_is, visit_later, visit_row, visit_some, word_low, words_within}
+pub use Rattle.weave_core.proofs.Visit.{add_result, checked_behind, cursor_decided, cursor_is, sub_result, visit_later, visit_row, visit_some, word_low, words_within}
 pub use Rattle.weave_core.proofs.Body.{auipc_is, mirror_steps_le, mirrored_part, spent_le}
-pub use Rattle.weave_core.proofs.Indirect.{Leaps, Tabled, addi_value, aim, andi_value, leap_step, leap_there, linked, linked_out, links_sets, look_walk, looked_keeps, table_load, table_word, tabled, word}
+pub use Rattle.weave_core.proofs.Indirect.{Leaps, Tabled, addi_value, aim, andi_value, entry_leap, find, found, leap_step, leap_there, linked, linked_out, links_sets, look_walk, looked_keeps, table_load, table_word, tabled, word}
 pub use Rattle.weave_core.proofs.Endings.{guards_pass, visit_more}
 pub use Rattle.weave_core.proofs.Trace.{full_rest, none_run, one_run, run-ended, trace}
 pub use Rattle.weave_core.proofs.Prologue.{begin_row}
@@ -30,10 +30,13 @@ pub use Rattle.weave_core.proofs.Tests.{tests_have_words, tests_kept, tests_land
 pub use Rattle.weave_core.proofs.TestWords.{AllPieces, InImage, IsKnownBlock, IsKnownEnd, IsNear, KnownEnd, both_all, down, if_all, near, up}
 pub use Rattle.weave_core.proofs.TestKnown.{body_size}
 pub use Rattle.weave_core.proofs.Listed.{fits_in, guard_found, opens_behind}
-pub use Rattle.weave_core.proofs.KindWords.{AllOriginal, a_break, a_jump, a_jump_reg, all_original, an_end, an_illegal, brk, compare_lockstep, guard_if, if_guarded, leave_branch, scratch_branch, scratch_compute, scratch_load}
+pub use Rattle.weave_core.proofs.KindWords.{AllOriginal, a_break, a_jump, a_jump_reg, all_original, an_end, an_illegal, brk, compare_lockstep, guard_if, high_branch, if_guarded, leave_branch, scratch_branch, scratch_compute, scratch_load}
 pub use Rattle.weave_core.proofs.BodyWords.{IsBodyWord, body_computes, body_fences, body_loads, body_stores, body_word}
 pub use Rattle.weave_core.proofs.KindItems.{compare_items, end_items, enter_items, go_items, instructions_then, items_constant, items_go, items_none, items_one, items_then, leave_items, links_items, one_guard, original_items, pair_scratch, prologue_items, reads_words, stub_opens, sweep_items, takes_use, two_guards, visits_items, zero_items}
 pub use Rattle.weave_core.proofs.Landing.{all_land_append, has_rest, known_same, land_at, land_behind, land_check, land_end, land_enter, land_go, land_go_on, land_leave, land_prologue, land_sweep, land_then, land_visits, over_words, small_size, straight_both, straight_compare, straight_compute, straight_constant, straight_guard, straight_guards, straight_lands, straight_links, straight_load, straight_none, straight_one, straight_then, straight_zeros}
+pub use Rattle.weave_core.proofs.Ways.{opposite_is}
+pub use Rattle.weave_core.proofs.Fork.{branch_items, branch_lands, fork, fork_items, fork_lands}
+pub use Rattle.weave_core.proofs.Store.{store_inside, store_items, store_lands, store_row}
 pub use Rattle.weave_core.proofs.ScratchParts.{plain_mirrors_fit}
 pub use Rattle.weave_core.proofs.DiverseFit.{diverse_mirrors_fit}
 pub use Rattle.weave_core.proofs.Entries.{first_sourced, reads_front, reads_rest}

@@ -1,12 +1,13 @@
 -- The entry and the leave of a block, as passes: what a leave is for, what it needs, and where it leads, a case for each kind of end.
-use Rattle.std.specs.Prelude.{◌≡◌, ℕ, ◌+◌, ◌*◌, ◌%◌, ◌^◌, ◌<◌, ◌≤◌, Bool, true, false, List, [], ◌∷◌, ◌++◌, length}
+use Rattle.std.specs.Prelude.{◌≡◌, ℕ, ◌+◌, ◌*◌, ◌%◌, ◌^◌, ◌<◌, ◌≤◌, Bool, true, false, List, [], ◌∷◌, ◌++◌, length, pos}
 use Rattle.qed_model.specs.declared.steps.TheConstants.{INSTRUCTION_STEPS}
 use Rattle.rv_isa.specs.Ins.{nop}
 use Rattle.rv_isa.specs.declared.class.Class.TheVariants as class
 use Rattle.qed_model.specs.Promise.Kept.{NotTrapped, LeadsToReached}
 use Rattle.tests.specs.Admission.DataRanges.{word_count}
-use Rattle.qed_model.specs.Weave.Sequences.{Form, leave_as, go_on, mirrored, sweep, compare, class_of, Class, Ins, LAST_ORIGINAL, CURSOR, SIGNATURE}
-use Rattle.weave_core.specs.World.{Item, Plain, Ended, World, Twice, State, reg, Known, step}
+use Rattle.qed_model.specs.Weave.Lean.{look_up}
+use Rattle.qed_model.specs.Weave.Sequences.{Form, leave_as, go_on, mirrored, sweep, compare, class_of, Class, Ins, LAST_ORIGINAL, CURSOR, SIGNATURE, TEMPORARY}
+use Rattle.weave_core.specs.World.{Item, Plain, Ended, World, Twice, State, reg, Known, step, ins, Jalr}
 use Rattle.weave_core.specs.Rows.{Sourced}
 use Rattle.weave_core.specs.Blocks.{IsEntryOf, Goes, Leaves}
 use Rattle.weave_core.specs.Pass.{Views}
@@ -32,6 +33,10 @@ left_as c next far i at = leave_as (leave_form far) c i at
 
 abbrev pub left : ℕ → Bool → Ins → ℕ → List Item
 left next far i at = left_as (class_of i.kind) next far i at
+
+-- a JALR looks the entry of the address in x30 up, and goes there
+abbrev pub look_and_go : List Item
+look_and_go = look_up TEMPORARY ++ (Plain (ins Jalr 0 TEMPORARY 0 (pos 0)) ∷ [])
 
 -- the ends that it is for; of a branch `next` is the address behind it
 abbrev pub IsLeft : Class → ℕ → Ins → ℕ → Type 0

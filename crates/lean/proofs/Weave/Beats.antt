@@ -1,8 +1,8 @@
 -- The trace of the lean form: its boundaries are the calls of the check.
-use Rattle.std.proofs.Common.{◌≡◌, ℕ, ◌+◌, ◌<◌, ◌≤◌, ◌⊎◌, inl, inr, ⊎_elim, Bool, true, List, sym, ap, ◌∙◌, subst, arith, cond}
+use Rattle.std.proofs.Common.{◌≡◌, ℕ, suc, ◌+◌, ◌<◌, ◌≤◌, ◌⊎◌, inl, inr, ⊎_elim, Bool, true, List, sym, ap, ◌∙◌, subst, arith, cond}
 use Rattle.tests.specs.Admission.DataRanges.{word_count, word_address}
 use Rattle.qed_model.specs.Promise.Kept.{after_input, after_output, IsSteady, Steady}
-use Rattle.qed_model.specs.Weave.Bounds.{entry_steps}
+use Rattle.qed_model.specs.Weave.LeanBounds.{entry_steps, call_steps}
 use Rattle.qed_model.specs.Weave.Sequences.{Reads}
 use Rattle.qed_model.specs.Weave.Lean.{first_word, begin}
 use Rattle.qed_model.specs.Weave.LeanCode.{Lean}
@@ -29,7 +29,7 @@ use Rattle.lean.proofs.Weave.Rows.{AtCheck, checks}
 module _ (f g : Program) (w : World) (l : Lean) (leader : ℕ → Bool) (x : LeanIn w l leader) (of : Describes f g w) (entries : EntriesAt w (weave_of w l leader) leader) (counts : Counts w l leader entries) (leads : leader f.entry ≡ true) (ticked : l.ticks f.entry ≡ true) (begins : Reads w.form.far w.code w.entry g.entry (begin w.distance f.entry)) where
   -- from a call of the check to the next, to behind its comparison with four steps left, and what runs before the end besides
   abbrev pub sizes : Sizes
-  sizes = record { piece = check_steps w + (l.every + entry_steps l.land); check = 31; last = 2 + swept_steps w; words = word_count w.form.spans; round = round_of (word_count w.form.spans) w.form.round }
+  sizes = record { piece = check_steps w + (l.every + entry_steps l.land + call_steps l.land); check = 20; last = 2 + swept_steps w; words = word_count w.form.spans; round = round_of (word_count w.form.spans) w.form.round }
 
   abbrev nth : ℕ → ℕ
   nth i = word_address w.form.spans i
@@ -64,7 +64,7 @@ module _ (f g : Program) (w : World) (l : Lean) (leader : ℕ → Bool) (x : Lea
       there n = run-more (start g regs) p n
 
       -- to the next call
-      next_at : Called w l leader x blocks back.to (after_input f b.moves) back.next (l.every + entry_steps l.land) → NextSteps w.code (start g regs) sizes (λ i. word_address w.form.spans i) Bound p i
+      next_at : Called w l leader x blocks back.to (after_input f b.moves) back.next (l.every + (entry_steps l.land + call_steps l.land)) → NextSteps w.code (start g regs) sizes (λ i. word_address w.form.spans i) Bound p i
       next_at c =
           let n = back.steps + c.steps in
           let to : run (after_output g regs p) (back.steps + c.steps) ≡ c.to = (walk_on (Quiet w) u back.to c.to back.steps c.steps back.walk c.walk).ends in
@@ -84,19 +84,18 @@ module _ (f g : Program) (w : World) (l : Lean) (leader : ℕ → Bool) (x : Lea
           }
 
       -- or to the end
-      ends_at : Finished w l leader x blocks back.to l.every → EndsSoon (start g regs) p (check_steps w + (l.every + entry_steps l.land) + (2 + swept_steps w))
+      ends_at : Finished w l leader x blocks back.to l.every → EndsSoon (start g regs) p (check_steps w + (l.every + entry_steps l.land + call_steps l.land) + (2 + swept_steps w))
       ends_at e =
           let to = (walk_on (Quiet w) u back.to e.to back.steps e.steps back.walk e.walk).ends in
           record { at = back.steps + e.steps; room = omega (arith, back.within, e.within, entry_some l.land); ended = ap (λ s. s.outcome) (there (back.steps + e.steps) ∙ to) ∙ e.ended }
 
       -- to the one or the other, where the input is steady
-      onward_at : (h : ℕ) → p + (l.every + 3) ≤ h → Steady f w.reached h → Called w l leader x blocks back.to s back.next (l.every + entry_steps l.land) ⊎ Finished w l leader x blocks back.to l.every
+      onward_at : (h : ℕ) → p + (l.every + 3) ≤ h → Steady f w.reached h → Called w l leader x blocks back.to s back.next (l.every + (entry_steps l.land + call_steps l.land)) ⊎ Finished w l leader x blocks back.to l.every
       onward_at h le steady =
           let c : IsSteady w.reached (after_input f b.moves) (l.every + 3) = steady_rest w.reached (start f zeros) b.moves (l.every + 3) (steady_le w.reached (start f zeros) (b.moves + (l.every + 3)) h (omega (arith, b.slow, le)) steady) in
-          subst (λ n. Called w l leader x blocks back.to s back.next (n + entry_steps l.land) ⊎ Finished w l leader x blocks back.to n) none (to_check w l leader x blocks entries counts (ahead w l leader x blocks entries counts s l.every) back.to s l.every back.next (omega arith) (record {
+          subst (λ n. Called w l leader x blocks back.to s back.next (n + (entry_steps l.land + call_steps l.land)) ⊎ Finished w l leader x blocks back.to n) none (to_check w l leader x blocks entries counts (suc (ahead w l leader x blocks entries counts s l.every)) back.to s l.every back.next (omega arith) (record {
             stands = back.stands;
             sourced = b.sourced;
-            some = x.some;
             most = omega arith;
             fifteen = back.counter;
             few = back.few;
@@ -111,11 +110,11 @@ module _ (f g : Program) (w : World) (l : Lean) (leader : ℕ → Bool) (x : Lea
       -- with one comparison
       piece_at : (h : ℕ) → Steady f w.reached h → PieceSteps w.code (start g regs) sizes (λ i. word_address w.form.spans i) h Bound p i
       piece_at h steady =
-          let e = run-more (start g regs) p 14 in
+          let e = run-more (start g regs) p 3 in
           record {
-            compare = 14;
+            compare = 3;
             room = omega arith;
-            at = record { going = ap (λ s. s.outcome) e ∙ (back.walk.each 14 (omega (arith, back.some))).going; words = subst (λ s. ComparesFrom w.code s.pc originals) (sym e) back.compares };
+            at = record { going = ap (λ s. s.outcome) e ∙ (back.walk.each 3 (omega (arith, back.some))).going; words = subst (λ s. ComparesFrom w.code s.pc originals) (sym e) back.compares };
             on = λ le. ⊎_elim (λ d. inl (next_at d)) (λ d. inr (ends_at d)) (onward_at h (omega (arith, le)) steady);
           }
 
@@ -137,7 +136,7 @@ module _ (f g : Program) (w : World) (l : Lean) (leader : ℕ → Bool) (x : Lea
 
     record First : Type 0 where
       steps : ℕ
-      within : steps ≤ 32 + entry_steps l.land
+      within : steps ≤ 31 + (entry_steps l.land + call_steps l.land)
       index : ℕ
       bound : Bound steps index
 
@@ -147,17 +146,16 @@ module _ (f g : Program) (w : World) (l : Lean) (leader : ℕ → Bool) (x : Lea
         let entry = blocks f.entry leads in
         let y = begin_law f g w l leader x of entry leads begins regs are in
         let s0 = start f zeros in
-        let b : Begins w l leader x blocks y.to s0 1 0 = record {
+        let b : Begins w l leader x blocks y.to s0 0 0 = record {
           stands = y.is.0;
           sourced = first_sourced f g w of;
-          some = omega arith;
-          most = x.some;
+          most = omega arith;
           fifteen = y.is.1;
           few = omega arith;
           sign = y.is.2;
           cursor = first_is w.base w.form.spans w.spans_good;
         } in
-        let c = called w l leader x blocks entries counts y.to s0 1 0 b ticked (fewer (l.most f.entry) l.every (x.ticks f.entry leads) x.few) (tick_some f.entry leads) (1 + entry_steps l.land) (omega arith) in
+        let c = called w l leader x blocks entries counts y.to s0 0 0 b ticked (fewer (l.most f.entry) l.every (x.ticks f.entry leads) x.few) (tick_some f.entry leads) (entry_steps l.land + call_steps l.land) (omega arith) in
         let walk = walk_on (Quiet w) (start g regs) y.to c.to y.steps c.steps y.walk c.walk in
         let n = placed w (first_word w.base w.form.spans + 0) (first_is w.base w.form.spans w.spans_good) in
         record {
@@ -173,11 +171,11 @@ module _ (f g : Program) (w : World) (l : Lean) (leader : ℕ → Bool) (x : Lea
             at = n.at;
           };
         } where
-          fewer : (m n : ℕ) → m < n → n ≤ 2048 → m ≤ 2048
+          fewer : (m n : ℕ) → m < n → n ≤ 2047 → m ≤ 2047
           fewer m n h k = omega (arith, h, k)
 
     -- the trace up to a number of steps in which the input is steady
-    pub traced : (h : ℕ) → Steady f w.reached h → Trace w.code (start g regs) sizes (λ i. word_address w.form.spans i) (32 + entry_steps l.land) h Bound
+    pub traced : (h : ℕ) → Steady f w.reached h → Trace w.code (start g regs) sizes (λ i. word_address w.form.spans i) (31 + (entry_steps l.land + call_steps l.land)) h Bound
     traced h steady =
         let first = first_call in
         record {

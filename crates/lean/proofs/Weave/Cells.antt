@@ -1,14 +1,15 @@
 -- From an entry to the next call of the check, or to the end of the test: block after block, as long as steps are left.
-use Rattle.std.proofs.Common.{◌≡◌, ℕ, zero, suc, ◌+◌, ◌-◌, ◌*◌, ◌%◌, ◌^◌, ◌<◌, ◌≤◌, ◌⊎◌, inl, inr, ⊎_elim, Bool, true, false, cond, List, [], ◌∷◌, ◌++◌, length, refl, sym, ap, ◌∙◌, subst, arith, append_assoc}
+use Rattle.std.proofs.Common.{◌≡◌, ℕ, zero, suc, ◌+◌, ◌-◌, ◌*◌, ◌^◌, ◌<◌, ◌≤◌, ◌⊎◌, inl, inr, ⊎_elim, Bool, true, false, cond, List, [], ◌∷◌, ◌++◌, length, refl, sym, ap, ◌∙◌, subst, arith, append_assoc}
+use Rattle.std.specs.Prelude.{◌==◌, ◌||◌}
 use Rattle.std.proofs.lemmas.Bool.{and_parts, eqb-true, cases_lt}
 use Rattle.qed_model.specs.Promise.Kept.{NotTrapped, IsSteady}
-use Rattle.qed_model.specs.Weave.Bounds.{entry_steps}
+use Rattle.qed_model.specs.Weave.LeanBounds.{entry_steps, call_steps}
 use Rattle.qed_model.specs.Weave.Code.{body_of, pieces_of}
-use Rattle.qed_model.specs.Weave.Sequences.{Reads, End, Falls, Stops, body_length, before_end, CURSOR, SIGNATURE}
+use Rattle.qed_model.specs.Weave.Sequences.{Reads, End, Falls, Stops, body_length, before_end, class_of, CURSOR, SIGNATURE}
 use Rattle.machine.specs.Operands.{is_auipc}
 use Rattle.qed_model.specs.Weave.Costs.{cost_each, original_cost}
 use Rattle.qed_model.specs.Weave.Lean.{first_word, leave, leave_cost}
-use Rattle.qed_model.specs.Weave.LeanCode.{Lean, piece_steps, body_steps, fall_to, leads_on}
+use Rattle.qed_model.specs.Weave.LeanCode.{Lean, is_store, store_steps, both_steps, mirror_steps_of, body_steps, fall_to, leads_on}
 use Rattle.machine.proofs.Lemmas.{run-more, Walk, walk_on}
 use Rattle.weave_core.specs.World.{World, Quiet, IsCursor, Ended, State, reg, run, Ins, Item}
 use Rattle.weave_core.specs.Blocks.{IsEntryOf}
@@ -21,9 +22,10 @@ use Rattle.lean.proofs.Weave.Costs.{entry_some}
 use Rattle.lean.proofs.Weave.End.{Sweeps, swept_on}
 use Rattle.lean.proofs.Weave.Leave.{SignedAs}
 use Rattle.lean.proofs.Weave.Left.{Parts, OnWay, leave_row}
-use Rattle.lean.proofs.Weave.Piece.{piece_row}
+use Rattle.lean.proofs.Weave.Piece.{piece_part}
 use Rattle.lean.proofs.Weave.Rows.{Entered as EnteredAt, Enters, AtCheck, passes, skips, calls}
-use Rattle.lean.proofs.Weave.Tick.{counter}
+use Rattle.lean.specs.Ticked.{counted}
+use Rattle.lean.proofs.Weave.Held.{ticked_of}
 
 -- the steps of each block are counted
 pub record Counts (w : World) (l : Lean) (leader : ℕ → Bool) (entries : EntriesAt w (weave_of w l leader) leader) : Type 0 where
@@ -53,16 +55,16 @@ module _ (w : World) (l : Lean) (leader : ℕ → Bool) (x : LeanIn w l leader) 
     pub sourced : Sourced w (run s moves)
     pub is : Is to (run s moves)
 
-  -- the output is at an entry, to which some way leads, with this counter
-  pub record Entered (on : ℕ → Bool) (off count : ℕ) (y t : State) : Type 0 where
+  -- the output is at an entry, to which some way leads, with this number in x15
+  pub record Entered (on : ℕ → Bool) (number : ℕ) (y t : State) : Type 0 where
     pub stands : Stands w leader y t
     pub way : OnWay w l leader x block on t.pc
-    pub sign : reg y SIGNATURE ≡ (t.pc + off * 2 ^ 32) % 2 ^ 64
-    pub counter : reg y CURSOR ≡ count
+    pub sign : reg y SIGNATURE ≡ t.pc
+    pub cursor : reg y CURSOR ≡ number
 
-  -- to an entry, with the counter as it was
-  abbrev pub Next : (ℕ → Bool) → State → State → ℕ → ℕ → Type 0
-  Next on u s off most = Way (Entered on off (reg u CURSOR)) u s most
+  -- to an entry, with x15 as it was
+  abbrev pub Next : (ℕ → Bool) → State → State → ℕ → Type 0
+  Next on u s most = Way (Entered on (reg u CURSOR)) u s most
 
   -- to a call of the check
   abbrev pub Called : State → State → ℕ → ℕ → Type 0
@@ -85,33 +87,34 @@ module _ (w : World) (l : Lean) (leader : ℕ → Bool) (x : LeanIn w l leader) 
   }
 
   -- ---- a block, behind its tick, with its end at `at`
-  module _ (b off at : ℕ) (e : End) (leads : leader b ≡ true) (few : off < 2 ^ 32) (own : l.start_of e at ≡ b) where
+  module _ (b at : ℕ) (e : End) (leads : leader b ≡ true) (own : l.start_of e at ≡ b) where
     -- the steps from before some pieces
     abbrev rest_steps : List (List Ins) → ℕ
     rest_steps ps = body_steps l.diverse ps + leave_cost (fall_to leader) e b at
 
     -- the leave
     leave_through :
-        (u s : State) (most : ℕ) → Parts w l leader x block u (run s (stops e)) (stops e) most (off * 2 ^ 32) (leads_on e at)
-        → NotTrapped (run s (stops e + 1)) → Next (leads_on e at) u s off most ⊎ Finished u most
+        (u s : State) (most : ℕ) → Parts w l leader x block u (run s (stops e)) (stops e) most (leads_on e at)
+        → NotTrapped (run s (stops e + 1)) → Next (leads_on e at) u s most ⊎ Finished u most
     leave_through u s most (inl g) calm = inr (record { steps = g.steps; to = g.to; within = g.within; walk = g.walk; ended = g.is.0.ended; swept = g.is.1 })
     leave_through u s most (inr (g, way)) calm = onward g.is where
-      onward : Onward w leader (SignedAs u (off * 2 ^ 32)) (run s (stops e)) g.to → Next (leads_on e at) u s off most ⊎ Finished u most
-      onward (lands st sg so) = inl (record { moves = stops e; steps = g.steps; to = g.to; slow = g.at_least; within = g.within; walk = g.walk; sourced = so; is = record { stands = st; way = way; sign = sg.0; counter = sg.1 } })
+      onward : Onward w leader (SignedAs u) (run s (stops e)) g.to → Next (leads_on e at) u s most ⊎ Finished u most
+      onward (lands st sg so) = inl (record { moves = stops e; steps = g.steps; to = g.to; slow = g.at_least; within = g.within; walk = g.walk; sourced = so; is = record { stands = st; way = way; sign = sg.0; cursor = sg.1 } })
       onward (is_lost going h so lacks) = absurd (no_code w (run s (stops e)) so lacks (subst NotTrapped (run-more s (stops e) 1 ∙ one_run (run s (stops e))) calm))
 
     through :
         (ps : List (List Ins)) (u s : State) → s.pc + 4 * body_length ps ≡ at → At w u (body_of v.code ps e s.pc) s s → Sourced w s → PiecesAt w v leader ps e s.pc
-        → reg u SIGNATURE ≡ (b + off * 2 ^ 32) % 2 ^ 64 → IsSteady w.reached s (body_length ps + 2)
-        → Next (leads_on e at) u s off (rest_steps ps) ⊎ Finished u (rest_steps ps)
+        → reg u SIGNATURE ≡ b → IsSteady w.reached s (body_length ps + 2)
+        → Next (leads_on e at) u s (rest_steps ps) ⊎ Finished u (rest_steps ps)
     through [] u s here a so q sign steady =
         let z : s.pc ≡ at = omega (arith, here) in
-        let a1 : At w u (leave (before_end w.form) (fall_to leader) e (l.start_of e at) at) s s = subst (λ k. At w u (leave (before_end w.form) (fall_to leader) e (l.start_of e k) k) s s) here a in
-        let a2 : At w u (leave (before_end w.form) (fall_to leader) e b s.pc) s s = subst (λ k. At w u (leave (before_end w.form) (fall_to leader) e b k) s s) (sym z) (subst (λ k. At w u (leave (before_end w.form) (fall_to leader) e k at) s s) own a1) in
+        let a0 : At w u (leave w.distance (before_end w.form) (fall_to leader) e (l.start_of e (s.pc + 4 * 0)) (s.pc + 4 * 0)) s s = subst (λ d. At w u (leave d (before_end w.form) (fall_to leader) e (l.start_of e (s.pc + 4 * 0)) (s.pc + 4 * 0)) s s) x.apart a in
+        let a1 : At w u (leave w.distance (before_end w.form) (fall_to leader) e (l.start_of e at) at) s s = subst (λ k. At w u (leave w.distance (before_end w.form) (fall_to leader) e (l.start_of e k) k) s s) here a0 in
+        let a2 : At w u (leave w.distance (before_end w.form) (fall_to leader) e b s.pc) s s = subst (λ k. At w u (leave w.distance (before_end w.form) (fall_to leader) e b k) s s) (sym z) (subst (λ k. At w u (leave w.distance (before_end w.form) (fall_to leader) e k at) s s) own a1) in
         let o = one e in
-        let p = leave_row w l leader x block b off leads few e u s a2 so q (steady_le w.reached s (stops e) 2 (omega (arith, o)) steady) sign in
-        let p1 : Parts w l leader x block u (run s (stops e)) (stops e) (leave_cost (fall_to leader) e b at) (off * 2 ^ 32) (leads_on e at) = subst (λ k. Parts w l leader x block u (run s (stops e)) (stops e) (leave_cost (fall_to leader) e b k) (off * 2 ^ 32) (leads_on e k)) z p in
-        subst (λ n. Next (leads_on e at) u s off n ⊎ Finished u n) (zero_on (leave_cost (fall_to leader) e b at)) (leave_through u s (leave_cost (fall_to leader) e b at) p1 (not_trapped_le s (stops e + 1) 2 (omega (arith, o)) steady.no_trap)) where
+        let p = leave_row w l leader x block b leads e u s a2 so q (steady_le w.reached s (stops e) 2 (omega (arith, o)) steady) sign in
+        let p1 : Parts w l leader x block u (run s (stops e)) (stops e) (leave_cost (fall_to leader) e b at) (leads_on e at) = subst (λ k. Parts w l leader x block u (run s (stops e)) (stops e) (leave_cost (fall_to leader) e b k) (leads_on e k)) z p in
+        subst (λ n. Next (leads_on e at) u s n ⊎ Finished u n) (zero_on (leave_cost (fall_to leader) e b at)) (leave_through u s (leave_cost (fall_to leader) e b at) p1 (not_trapped_le s (stops e + 1) 2 (omega (arith, o)) steady.no_trap)) where
           one : (e : End) → stops e ≤ 1
           one Falls = omega arith
           one (Stops i) = omega arith
@@ -128,16 +131,16 @@ module _ (w : World) (l : Lean) (leader : ℕ → Bool) (x : LeanIn w l leader) 
         let rest = body_of v.code ps e (s.pc + 4 * length p) in
         let a1 : At w u (v.code.piece p s.pc ++ (pieces_of v.code ps (s.pc + 4 * length p) ++ v.code.leave e (s.pc + 4 * body_length (p ∷ ps)))) s s = subst (λ l. At w u l s s) (append_assoc (v.code.piece p s.pc) (pieces_of v.code ps (s.pc + 4 * length p)) (v.code.leave e (s.pc + 4 * body_length (p ∷ ps)))) a in
         let a2 : At w u (v.code.piece p s.pc ++ rest) s s = subst (λ k. At w u (v.code.piece p s.pc ++ (pieces_of v.code ps (s.pc + 4 * length p) ++ v.code.leave e k)) s s) far a1 in
-        let r = piece_row l.diverse w p s q.0.fit (and_parts _ _ q.0.one).0 q.0.has so calm u rest a2 in
+        let r = (piece_part l.diverse w p).row u s rest (record { fit = q.0.fit; clean = (and_parts _ _ q.0.one).0; has = q.0.has; sourced = so; calm = calm }) a2 in
         let next_pc : t.pc + 4 * body_length ps ≡ at = ap (λ k. k + 4 * body_length ps) there ∙ sym far ∙ here in
         let count : length p + (body_length ps + 2) ≡ body_length (p ∷ ps) + 2 = omega arith in
         let more = through ps r.to t next_pc (subst (λ k. At w r.to (body_of v.code ps e k) t t) (sym there) r.at) y.sourced (subst (λ k. PiecesAt w v leader ps e k) (sym there) q.1) (r.sign ∙ sign) (steady_rest w.reached s k (body_length ps + 2) (subst (IsSteady w.reached s) (sym count) steady)) in
-        let sum : piece_steps l.diverse p + rest_steps ps ≡ rest_steps (p ∷ ps) = sums (piece_steps l.diverse p) (body_steps l.diverse ps) (leave_cost (fall_to leader) e b at) in
+        let sum : cost_each (both_steps l.diverse) p + rest_steps ps ≡ rest_steps (p ∷ ps) = sums (cost_each (both_steps l.diverse) p) (body_steps l.diverse ps) (leave_cost (fall_to leader) e b at) in
         let on = leads_on e at in
-        subst (λ n. Next (leads_on e at) u s off n ⊎ Finished u n) sum
+        subst (λ n. Next (leads_on e at) u s n ⊎ Finished u n) sum
         (⊎_elim
-        (λ n. inl (way_on (Entered on off (reg u CURSOR)) u r.to s r.steps k (rest_steps ps) (piece_steps l.diverse p + rest_steps ps) r.walk r.at_least (both r.steps (piece_steps l.diverse p) (rest_steps ps) r.within) (subst (λ c. Way (Entered on off c) r.to t (rest_steps ps)) r.counter n)))
-        (λ f. inr (finished_on u r.to r.steps (rest_steps ps) (piece_steps l.diverse p + rest_steps ps) r.walk (both r.steps (piece_steps l.diverse p) (rest_steps ps) r.within) f))
+        (λ n. inl (way_on (Entered on (reg u CURSOR)) u r.to s r.steps k (rest_steps ps) (cost_each (both_steps l.diverse) p + rest_steps ps) r.walk r.at_least (both r.steps (cost_each (both_steps l.diverse) p) (rest_steps ps) r.within) (subst (λ c. Way (Entered on c) r.to t (rest_steps ps)) r.cursor n)))
+        (λ f. inr (finished_on u r.to r.steps (rest_steps ps) (cost_each (both_steps l.diverse) p + rest_steps ps) r.walk (both r.steps (cost_each (both_steps l.diverse) p) (rest_steps ps) r.within) f))
         more) where
           sums : (a b c : ℕ) → a + (b + c) ≡ a + b + c
           sums a b c = omega arith
@@ -146,32 +149,42 @@ module _ (w : World) (l : Lean) (leader : ℕ → Bool) (x : LeanIn w l leader) 
           both m a c h = omega (arith, h)
 
   -- ---- block after block
-  -- what is asked of the begin of a block: so many steps are left
-  pub record Begins (u s : State) (left off : ℕ) : Type 0 where
+  -- what is asked of the begin of a block: so many steps may be counted before the count passes 2047
+  pub record Begins (u s : State) (room off : ℕ) : Type 0 where
     pub stands : Stands w leader u s
     pub sourced : Sourced w s
-    pub some : 1 ≤ left
-    pub most : left ≤ l.every
-    pub fifteen : reg u CURSOR ≡ counter left
+    pub most : room ≤ l.every
+    pub fifteen : reg u CURSOR ≡ counted off (2047 - room)
     pub few : off < 2 ^ 32
-    pub sign : reg u SIGNATURE ≡ (s.pc + off * 2 ^ 32) % 2 ^ 64
+    pub sign : reg u SIGNATURE ≡ s.pc
     pub cursor : IsCursor w.form.spans (first_word w.base w.form.spans + off)
 
   module _ (entries : EntriesAt w (weave_of w l leader) leader) (counts : Counts w l leader entries) where
     -- a block has no more instructions than steps
-    pieces_le : (is : List Ins) → length is ≤ cost_each original_cost is
+    bare_some : (b : Bool) → 1 ≤ cond {A = ℕ} b 2 1
+    bare_some true = omega arith
+    bare_some false = omega arith
+
+    store_some : (b : Bool) → 1 ≤ cond {A = ℕ} b 5 6
+    store_some true = omega arith
+    store_some false = omega arith
+
+    one_some : (i : Ins) → 1 ≤ both_steps l.diverse i
+    one_some i = by (is_store (class_of i.kind)) (bare_some (is_auipc i.kind)) (store_some ((i.rs2 == i.rs1) || (i.rs2 == 0))) where
+      by : (b : Bool) → 1 ≤ cond {A = ℕ} (is_auipc i.kind) 2 1 → 1 ≤ store_steps i → 1 ≤ cond b (store_steps i) (original_cost i + mirror_steps_of l.diverse i)
+      by true e f = f
+      by false e f = omega (arith, e)
+
+    pieces_le : (is : List Ins) → length is ≤ cost_each (both_steps l.diverse) is
     pieces_le [] = omega arith
-    pieces_le (i ∷ is) = let a = pieces_le is in let b = bare_some (is_auipc i.kind) in omega (arith, a, b) where
-      bare_some : (b : Bool) → 1 ≤ cond {A = ℕ} b 2 1
-      bare_some true = omega arith
-      bare_some false = omega arith
+    pieces_le (i ∷ is) = let a = pieces_le is in let b = one_some i in omega (arith, a, b)
 
     body_le : (ps : List (List Ins)) → body_length ps ≤ body_steps l.diverse ps
     body_le [] = omega arith
     body_le (p ∷ ps) = let a = pieces_le p in let b = body_le ps in omega (arith, a, b)
 
     -- what stands at the entry of the block
-    module _ (u s : State) (left off : ℕ) (b : Begins u s left off) where
+    module _ (u s : State) (room off : ℕ) (b : Begins u s room off) where
       abbrev rest : List Item
       rest = let e = entries s.pc b.stands.leads in body_of v.code e.body e.end s.pc
 
@@ -183,9 +196,11 @@ module _ (w : World) (l : Lean) (leader : ℕ → Bool) (x : LeanIn w l leader) 
             halved = b.stands.halved;
             reads = subst (λ a. Reads w.form.far w.code w.entry a (v.code.enter s.pc ++ rest)) (sym b.stands.pc) e.reads.1;
             low = e.good.low;
-            ticked = record { left = left; some = b.some; most = b.most; fifteen = b.fifteen; offset = off; few = b.few; sign = b.sign; cursor = b.cursor };
+            ticked = record { count = 2047 - room; least = least room l.every b.most; most = omega arith; offset = off; few = b.few; fifteen = b.fifteen; sign = b.sign; cursor = b.cursor };
             begins = b.stands.pc;
-          }
+          } where
+            least : (n m : ℕ) → n ≤ m → 2047 ≤ 2047 - n + m
+            least n m h = omega (arith, h)
 
       -- the most steps of the block behind its entry, and where it goes on
       abbrev bound : ℕ
@@ -194,59 +209,66 @@ module _ (w : World) (l : Lean) (leader : ℕ → Bool) (x : LeanIn w l leader) 
       abbrev on : ℕ → Bool
       on = let e = entries s.pc b.stands.leads in leads_on e.end (s.pc + 4 * body_length e.body)
 
-      -- behind the entry, with so many steps left
+      -- at most every, which is at most 2047
+      room_most : room ≤ 2047
+      room_most = let h = b.most in let k = x.few in omega (arith, h, k)
+
+      -- behind the entry, where so many steps may be counted
       pub record Passed : Type 0 where
         pub steps : ℕ
         pub count : ℕ
         pub to : State
         pub few : steps ≤ entry_steps l.land
-        pub some : 1 ≤ count
-        pub most : count ≤ left
-        pub sum : count + l.most s.pc ≤ left + owed l s.pc
+        pub most : count ≤ room
+        pub sum : count + l.most s.pc ≤ room + owed l s.pc
         pub walk : Walk (Quiet w) u steps to
         pub at : At w to rest s s
-        pub fifteen : reg to CURSOR ≡ counter count
-        pub sixteen : reg to SIGNATURE ≡ reg u SIGNATURE
+        pub fifteen : reg to CURSOR ≡ counted off (2047 - count)
+        pub sixteen : reg to SIGNATURE ≡ s.pc
 
       entered :
-          (least count : ℕ) → GoesTo w u least (entry_steps l.land) (λ n y. EnteredAt w l leader x s rest s.pc n y × (reg y CURSOR ≡ counter count) × (reg y SIGNATURE ≡ reg u SIGNATURE)) → 1 ≤ count → count ≤ left
-          → count + l.most s.pc ≤ left + owed l s.pc → Passed
-      entered least count g some most sum = record {
+          (least count number : ℕ) → GoesTo w u least (entry_steps l.land) (λ n y. EnteredAt w l leader x s rest s.pc n y × (reg y CURSOR ≡ counted off number)) → number ≡ 2047 - count → count ≤ room
+          → count + l.most s.pc ≤ room + owed l s.pc → Passed
+      entered least count number g same most sum = record {
         steps = g.steps;
         count = count;
         to = g.to;
         few = g.within;
-        some = some;
         most = most;
         sum = sum;
         walk = g.walk;
         at = g.is.0.0;
-        fifteen = g.is.1;
-        sixteen = g.is.2;
+        fifteen = g.is.1 ∙ ap (counted off) same;
+        sixteen = (ticked_of l.every w g.to s.pc g.is.0.1).sign;
       }
 
       -- where its tick passes
-      passed : l.ticks s.pc ≡ true → l.most s.pc < left → l.most s.pc ≤ 2048 → Passed
+      passed : l.ticks s.pc ≡ true → l.most s.pc ≤ room → Passed
       unfolding enters
-      passed has lt small = entered (entry_steps l.land) (left - l.most s.pc) (passes w l leader x u s rest s.pc enters has lt small) (omega (arith, lt)) (omega arith) (omega (arith, lt))
+      passed has le = entered (entry_steps l.land) (room - l.most s.pc) (2047 - room + l.most s.pc) (passes w l leader x u s rest s.pc enters has (fits room (l.most s.pc) room_most le)) (same room (l.most s.pc) room_most le) (omega arith) (omega (arith, le)) where
+        fits : (n m : ℕ) → n ≤ 2047 → m ≤ n → 2047 - n + m ≤ 2047
+        fits n m h k = omega (arith, h, k)
+
+        same : (n m : ℕ) → n ≤ 2047 → m ≤ n → 2047 - n + m ≡ 2047 - (n - m)
+        same n m h k = omega (arith, h, k)
 
       -- or it has none
       skipped : l.ticks s.pc ≡ false → Passed
       unfolding enters
       skipped none =
           let all : owed l s.pc ≡ l.most s.pc = ap (λ t. cond {A = ℕ} t 0 (l.most s.pc)) none in
-          entered 0 left (skips w l leader x u s rest s.pc enters none) b.some (omega arith) (omega (arith, all))
+          entered 0 room (2047 - room) (skips w l leader x u s rest s.pc enters none) refl (omega arith) (omega (arith, all))
 
       -- to the next block, or to the end
-      onward : (p : Passed) → IsSteady w.reached s (left + owed l s.pc + 3) → Next on p.to s off bound ⊎ Finished p.to bound
+      onward : (p : Passed) → IsSteady w.reached s (room + owed l s.pc + 3) → Next on p.to s bound ⊎ Finished p.to bound
       onward p steady =
           let e = entries s.pc b.stands.leads in
           let at = s.pc + 4 * body_length e.body in
           let c = counts.each s.pc b.stands.leads in
           let few = body_le e.body in
           let own = eqb-true (l.start_of e.end at) s.pc (and_parts _ _ e.good.own).0 in
-          through s.pc off at e.end b.stands.leads b.few own e.body p.to s refl p.at b.sourced e.good.pieces (p.sixteen ∙ b.sign)
-          (steady_le w.reached s (body_length e.body + 2) (left + owed l s.pc + 3) (enough (body_length e.body) (body_steps l.diverse e.body) (leave_cost (fall_to leader) e.end s.pc at) (l.most s.pc) p.count (left + owed l s.pc) few c.0 p.sum) steady) where
+          through s.pc at e.end b.stands.leads own e.body p.to s refl p.at b.sourced e.good.pieces p.sixteen
+          (steady_le w.reached s (body_length e.body + 2) (room + owed l s.pc + 3) (enough (body_length e.body) (body_steps l.diverse e.body) (leave_cost (fall_to leader) e.end s.pc at) (l.most s.pc) p.count (room + owed l s.pc) few c.0 p.sum) steady) where
             enough : (a b c m n k : ℕ) → a ≤ b → entry_steps l.land + (b + c) ≤ m → n + m ≤ k → a + 2 ≤ k + 3
             enough a b c m n k h e lt = omega (arith, h, e, lt)
 
@@ -259,25 +281,27 @@ module _ (w : World) (l : Lean) (leader : ℕ → Bool) (x : LeanIn w l leader) 
             nothing : (a o m : ℕ) → o ≡ 0 → a ≤ m → a + o ≤ m
             nothing a o m e h = omega (arith, e, h)
 
-      -- where it calls the check
-      pub called : l.ticks s.pc ≡ true → l.most s.pc ≤ 2048 → left ≤ l.most s.pc → (most : ℕ) → left + entry_steps l.land ≤ most → Called u s off most
+      -- where it goes to the check
+      pub called : l.ticks s.pc ≡ true → l.most s.pc ≤ 2047 → suc room ≤ l.most s.pc → (most : ℕ) → entry_steps l.land + call_steps l.land ≤ most → Called u s off most
       unfolding enters
       called has small ge most le =
-          let c = calls w l leader x u s rest enters b.stands.leads has ge small in
+          let c = calls w l leader x u s rest enters b.stands.leads has (over room (l.most s.pc) room_most ge) small in
           record {
             moves = 0;
-            steps = entry_steps l.land + 1;
+            steps = entry_steps l.land + call_steps l.land;
             to = c.0;
             slow = omega arith;
-            within = omega (arith, b.some, le);
+            within = le;
             walk = c.1;
             sourced = subst (Sourced w) (sym (none_run s)) b.sourced;
             is = subst (λ t. AtCheck w l leader x c.0 t off) (sym (none_run s)) c.2;
-          }
+          } where
+            over : (n m : ℕ) → n ≤ 2047 → suc n ≤ m → 2048 ≤ 2047 - n + m
+            over n m h k = omega (arith, h, k)
 
     -- ---- sums of to_check
-    fewer_left : (n m k o e b f : ℕ) → n + m ≤ k → k ≤ suc f → e + b + o ≤ m → 2 ≤ e → n + o ≤ f
-    fewer_left n m k o e b f h l1 c two = omega (arith, h, l1, c, two)
+    fewer_left : (n m k o e b f : ℕ) → n + m ≤ k → suc k ≤ suc f → e + b + o ≤ m → 3 ≤ e → suc (n + o) ≤ f
+    fewer_left n m k o e b f h l1 c three = omega (arith, h, l1, c, three)
 
     slower : (n m k o e b moves steps : ℕ) → n + m ≤ k → e + b + o ≤ m → moves ≤ steps → steps ≤ b → moves + (n + o + 3) ≤ k + 3
     slower n m k o e b moves steps h c slow within = omega (arith, h, c, slow, within)
@@ -295,59 +319,62 @@ module _ (w : World) (l : Lean) (leader : ℕ → Bool) (x : LeanIn w l leader) 
     at_entry moves first steps h = omega (arith, h)
 
     -- ---- from any block to the next call of the check, or to the end of the test
-    -- the steps that are left, and those that the last tick has counted
+    -- the steps that may be counted, and those that the last tick has counted
     abbrev pub ahead : State → ℕ → ℕ
-    ahead s left = left + owed l s.pc
+    ahead s room = room + owed l s.pc
+
+    -- the entry that goes to the check
+    abbrev pub calling : ℕ
+    calling = entry_steps l.land + call_steps l.land
 
     -- the same from a later entry
     abbrev Rest : ℕ → ℕ → Type 0
-    Rest fuel off = (y t : State) (n : ℕ) → Begins y t n off → ahead t n ≤ fuel → IsSteady w.reached t (ahead t n + 3) → Called y t off (ahead t n + entry_steps l.land) ⊎ Finished y (ahead t n)
+    Rest fuel off = (y t : State) (n : ℕ) → Begins y t n off → suc (ahead t n) ≤ fuel → IsSteady w.reached t (ahead t n + 3) → Called y t off (ahead t n + calling) ⊎ Finished y (ahead t n)
 
-    pub to_check : (fuel : ℕ) (u s : State) (left off : ℕ) → ahead s left ≤ fuel → Begins u s left off → IsSteady w.reached s (ahead s left + 3) → Called u s off (ahead s left + entry_steps l.land) ⊎ Finished u (ahead s left)
-    to_check zero u s left off l1 b steady = let some = b.some in absurd (nothing left (owed l s.pc) some l1) where
-      nothing : (n o : ℕ) → 1 ≤ n → n + o ≤ 0 → ⊥
-      nothing n o h k = omega (arith, h, k)
-    to_check (suc fuel) u s left off l1 b steady = by (λ y t n c k st. to_check fuel y t n off k c st) (l.ticks s.pc) refl where
-      small : l.most s.pc ≤ 2048
+    pub to_check : (fuel : ℕ) (u s : State) (room off : ℕ) → suc (ahead s room) ≤ fuel → Begins u s room off → IsSteady w.reached s (ahead s room + 3) → Called u s off (ahead s room + calling) ⊎ Finished u (ahead s room)
+    to_check zero u s room off l1 b steady = absurd (nothing (ahead s room) l1) where
+      nothing : (n : ℕ) → suc n ≤ 0 → ⊥
+      nothing n h = omega (arith, h)
+    to_check (suc fuel) u s room off l1 b steady = by (λ y t n c k st. to_check fuel y t n off k c st) (l.ticks s.pc) refl where
+      small : l.most s.pc ≤ 2047
       small = fewer (l.most s.pc) l.every (x.ticks s.pc b.stands.leads) x.few where
-        fewer : (m n : ℕ) → m < n → n ≤ 2048 → m ≤ 2048
+        fewer : (m n : ℕ) → m < n → n ≤ 2047 → m ≤ 2047
         fewer m n h k = omega (arith, h, k)
 
-      first_call : (n o e : ℕ) → n + e ≤ n + o + e
+      first_call : (n o e : ℕ) → e ≤ n + o + e
       first_call n o e = omega arith
 
-      on_from : Rest fuel off → Passed u s left off b → Called u s off (ahead s left + entry_steps l.land) ⊎ Finished u (ahead s left)
+      on_from : Rest fuel off → Passed u s room off b → Called u s off (ahead s room + calling) ⊎ Finished u (ahead s room)
       on_from rec p =
           ⊎_elim
           (λ n.
           let t = run s n.moves in
-          let o = owing u s left off b t.pc n.is.way n.is.stands.leads in
-          let sum = all_steps p.count (l.most s.pc) (ahead s left) (owed l t.pc) (entry_steps l.land) (bound u s left off b) p.steps n.steps p.sum o p.few n.within in
+          let o = owing u s room off b t.pc n.is.way n.is.stands.leads in
+          let sum = all_steps p.count (l.most s.pc) (ahead s room) (owed l t.pc) (entry_steps l.land) (bound u s room off b) p.steps n.steps p.sum o p.few n.within in
           let c = rec n.to t p.count (record {
             stands = n.is.stands;
             sourced = n.sourced;
-            some = p.some;
-            most = less p.count left l.every p.most b.most;
-            fifteen = n.is.counter ∙ p.fifteen;
+            most = less p.count room l.every p.most b.most;
+            fifteen = n.is.cursor ∙ p.fifteen;
             few = b.few;
             sign = n.is.sign;
             cursor = b.cursor;
-          }) (fewer_left p.count (l.most s.pc) (ahead s left) (owed l t.pc) (entry_steps l.land) (bound u s left off b) fuel p.sum l1 o (entry_some l.land))
-          (steady_rest w.reached s n.moves (ahead t p.count + 3) (steady_le w.reached s (n.moves + (ahead t p.count + 3)) (ahead s left + 3) (slower p.count (l.most s.pc) (ahead s left) (owed l t.pc) (entry_steps l.land) (bound u s left off b) n.moves n.steps p.sum o n.slow n.within) steady)) in
+          }) (fewer_left p.count (l.most s.pc) (ahead s room) (owed l t.pc) (entry_steps l.land) (bound u s room off b) fuel p.sum l1 o (entry_some l.land))
+          (steady_rest w.reached s n.moves (ahead t p.count + 3) (steady_le w.reached s (n.moves + (ahead t p.count + 3)) (ahead s room + 3) (slower p.count (l.most s.pc) (ahead s room) (owed l t.pc) (entry_steps l.land) (bound u s room off b) n.moves n.steps p.sum o n.slow n.within) steady)) in
           let w2 = walk_on (Quiet w) u p.to n.to p.steps n.steps p.walk n.walk in
           ⊎_elim
-          (λ d. inl (way_on (λ y t. AtCheck w l leader x y t off) u n.to s (p.steps + n.steps) n.moves (ahead t p.count + entry_steps l.land) (ahead s left + entry_steps l.land) w2 (at_entry n.moves p.steps n.steps n.slow) (and_entry (p.steps + n.steps) p.count (owed l t.pc) (ahead s left) (entry_steps l.land) sum) d))
-          (λ f. inr (finished_on u n.to (p.steps + n.steps) (ahead t p.count) (ahead s left) w2 sum f))
+          (λ d. inl (way_on (λ y t. AtCheck w l leader x y t off) u n.to s (p.steps + n.steps) n.moves (ahead t p.count + calling) (ahead s room + calling) w2 (at_entry n.moves p.steps n.steps n.slow) (and_entry (p.steps + n.steps) p.count (owed l t.pc) (ahead s room) calling sum) d))
+          (λ f. inr (finished_on u n.to (p.steps + n.steps) (ahead t p.count) (ahead s room) w2 sum f))
           c)
-          (λ f. inr (finished_on u p.to p.steps (bound u s left off b) (ahead s left) p.walk (last_steps p.count (l.most s.pc) (ahead s left) (entry_steps l.land) (bound u s left off b) p.steps p.sum (counts.each s.pc b.stands.leads).0 p.few) f))
-          (onward u s left off b p steady) where
+          (λ f. inr (finished_on u p.to p.steps (bound u s room off b) (ahead s room) p.walk (last_steps p.count (l.most s.pc) (ahead s room) (entry_steps l.land) (bound u s room off b) p.steps p.sum (counts.each s.pc b.stands.leads).0 p.few) f))
+          (onward u s room off b p steady) where
             less : (a b c : ℕ) → a ≤ b → b ≤ c → a ≤ c
             less a b c h k = omega (arith, h, k)
 
-      by : Rest fuel off → (t : Bool) → l.ticks s.pc ≡ t → Called u s off (ahead s left + entry_steps l.land) ⊎ Finished u (ahead s left)
-      by rec false none = on_from rec (skipped u s left off b none)
+      by : Rest fuel off → (t : Bool) → l.ticks s.pc ≡ t → Called u s off (ahead s room + calling) ⊎ Finished u (ahead s room)
+      by rec false none = on_from rec (skipped u s room off b none)
       by rec true has =
           ⊎_elim
-          (λ lt. on_from rec (passed u s left off b has lt small))
-          (λ ge. inl (called u s left off b has small ge (ahead s left + entry_steps l.land) (first_call left (owed l s.pc) (entry_steps l.land))))
-          (cases_lt (l.most s.pc) left)
+          (λ lt. inl (called u s room off b has small lt (ahead s room + calling) (first_call room (owed l s.pc) calling)))
+          (λ le. on_from rec (passed u s room off b has le))
+          (cases_lt room (l.most s.pc))

@@ -1,14 +1,16 @@
 -- Chains of words that set registers: constants and computing instructions, with the number that each gives.
-use Rattle.std.proofs.Common.{◌≡◌, ℕ, ◌+◌, ◌*◌, ◌^◌, ◌<◌, ⊎_elim, Bool, true, cond, List, [], ◌∷◌, ◌++◌, length, refl, sym, ap, ◌∙◌, arith}
+use Rattle.std.proofs.Common.{◌≡◌, ℕ, ◌+◌, ◌*◌, ◌^◌, ◌<◌, ⊎_elim, Bool, true, false, cond, List, [], ◌∷◌, ◌++◌, length, refl, sym, ap, ◌∙◌, arith}
 use Rattle.std.specs.Prelude.{◌==◌, ◌&&◌, ◌||◌, nat_lt, nat_le, slice_index, pos}
-use Rattle.std.proofs.lemmas.Bool.{cases_eq, eq-eqb, ne_eqb, and_parts, and_from, or_cases, ltb-true, leb-true}
+use Rattle.std.proofs.lemmas.Bool.{cases_eq, cases_Bool, false≢true, eq-eqb, ne_eqb, and_parts, and_from, or_cases, ltb-true, leb-true}
+use Rattle.rv_isa.specs.declared.kind.Kind.{Kind}
+use Rattle.rv_isa.specs.declared.kind.Kind.TheVariants.{Ebreak}
 use Rattle.rv_isa.specs.declared.class.Class.TheVariants as class
 use Rattle.rv_isa.proofs.RegsLaws.{slice_index-set_reg_other, slice_index-set_reg_same, length-set_reg}
 use Rattle.machine.specs.Table.{ins, Ins, Auipc, Beq}
 use Rattle.qed_model.specs.Weave.Sequences.{Reads, SIGNATURE, TEMPORARY}
-use Rattle.qed_model.specs.Weave.Lean.{cost}
+use Rattle.qed_model.specs.Weave.Lean.{is_break, cost}
 use Rattle.machine.proofs.Lemmas.{Over, over_moved, walk_none}
-use Rattle.weave_core.specs.World.{World, Quiet, Item, Mark, Plain, Constant, Go, State, moved, result, Fetched, Known, fetched_at, class_of, set_reg}
+use Rattle.weave_core.specs.World.{World, Quiet, Item, Mark, Plain, Constant, Go, State, moved, result, Fetched, Known, fetched_at, class_of, Class, set_reg}
 use Rattle.weave_core.proofs.Lemmas.{Sets, AllTemps, writes, sets_on, sets_compute, sets_const}
 
 -- ---- what several writes leave
@@ -127,6 +129,15 @@ module _ (w : World) (u : State) (rest : List Item) (o : Over w.code u) where
   chain_pc xs long g h = chain_far xs u.regs u.pc long g h
 
 -- ---- steps of items
+-- an EBREAK is of its class
+pub break_is : (k : Kind) → is_break k ≡ true → class_of k ≡ class.Break
+break_is Ebreak e = refl
+break_is k e = absurd (false≢true e)
+
+-- a word of another class is none
+pub no_break : (k : Kind) (c : Class) → class_of k ≡ c → (c ≡ class.Break → ⊥) → is_break k ≡ false
+no_break k c e ne = ⊎_elim (λ t. absurd (ne (sym e ∙ break_is k t))) (λ f. f) (cases_Bool (is_break k))
+
 pub cost_append : (xs ys : List Item) → cost (xs ++ ys) ≡ cost xs + cost ys
 cost_append [] ys = omega arith
 cost_append (Mark a ∷ xs) ys = cost_append xs ys

@@ -1,8 +1,8 @@
 -- Words that keep the signature and go on to the next word, or over it: from any of them, in any state, the run comes to what stands behind them, or is over.
-use Rattle.std.proofs.Common.{◌≡◌, ℕ, zero, suc, ◌+◌, ◌*◌, ◌%◌, ◌^◌, ◌≤◌, ◌⊎◌, inl, inr, ⊎_elim, Bool, true, false, cond, not, List, [], ◌∷◌, ◌++◌, refl, sym, ap, ◌∙◌, subst, arith}
-use Rattle.std.specs.Prelude.{◌==◌, ◌&&◌, pos, slice_index}
+use Rattle.std.proofs.Common.{◌≡◌, ℕ, zero, suc, ◌+◌, ◌*◌, ◌%◌, ◌^◌, ◌≤◌, ◌⊎◌, inl, inr, ⊎_elim, Bool, true, false, cond, not, List, [], ◌∷◌, ◌++◌, length, refl, sym, ap, ◌∙◌, subst, arith}
+use Rattle.std.specs.Prelude.{◌==◌, pos, slice_index}
 use Rattle.std.specs.List.{list_all}
-use Rattle.std.proofs.lemmas.Bool.{and_parts, and_from, ne_eqb, false≢true}
+use Rattle.std.proofs.lemmas.Bool.{and_parts, ne_eqb, false≢true}
 use Rattle.rv_isa.specs.declared.class.Class.TheVariants as class
 use Rattle.rv_isa.proofs.RegsLaws.{slice_index-set_reg_other}
 use Rattle.machine.specs.declared.outcome.Cause.{Cause}
@@ -16,21 +16,25 @@ use Rattle.qed_model.specs.Weave.Diverse.{reg_at, part_items, parts_of, diverse_
 use Rattle.qed_model.specs.Weave.Forms.{mirror_of}
 use Rattle.qed_model.specs.Weave.Placed.{sum_of_sizes}
 use Rattle.machine.specs.Offsets.{distance_between, upper_part, lower_part}
+use Rattle.qed_model.specs.Weave.Lean.{is_break, cost, check_distance, check_way, guard_value, mirrored_store}
+use Rattle.qed_model.specs.Weave.LeanCode.{is_store, store_part, both_parts, parts_with, piece}
 use Rattle.qed_model.specs.Weave.Sequences.{Reads, fired_check, guard, guards, guards_of, links, original, original_as, mirrored, mirror_as, each_part, LAST_ORIGINAL, PAIR_DISTANCE, SIGNATURE, TEMPORARY, pair}
 use Rattle.machine.specs.Operands.{is_auipc}
 use Rattle.qed_model.proofs.Lemmas.{all_fine, fine_part}
 use Rattle.machine.proofs.Lemmas.{step-class, Over, known_at, run-more}
 use Rattle.weave_core.specs.Blocks.{IsLowAs, FitsPiece, AllFit}
-use Rattle.weave_core.specs.World.{World, Item, Mark, Plain, Constant, Go, Going, grants, number, put, wrapped, holds, width_of, loaded, State, reg, moved, stored, trapped, jumped, imm, place, result, next_pc, execute, Known, next, step, run, target, Class, class_of, set_reg}
-use Rattle.weave_core.proofs.Lemmas.{auipc_is, IsBodyWord, body_computes, body_loads, body_stores, body_fences, body_word, operates_class, jumped_to, pc_four, Standing, standing_step}
+use Rattle.weave_core.specs.World.{World, Item, Mark, Plain, Constant, Go, Going, grants, number, put, wrapped, holds, width_of, loaded, State, reg, moved, stored, trapped, jumped, imm, place, result, next_pc, execute, Known, next, step, run, target, Kind, Class, class_of, set_reg}
+use Rattle.weave_core.proofs.Lemmas.{auipc_is, IsBodyWord, body_computes, body_loads, body_stores, body_fences, body_word, operates_class, jumped_to, pc_four, Standing, standing_step, one_run}
 use Rattle.lean.specs.Strayed.{IsOver}
+use Rattle.lean.proofs.Weave.Chain.{break_is, no_break}
+use Rattle.lean.proofs.Weave.Piece.{store_class}
 
 -- ---- the words
--- neither x14 nor x16
+-- not x16
 abbrev pub is_other : ℕ → Bool
-is_other r = not (r == 14) && not (r == 16)
+is_other r = not (r == 16)
 
--- it keeps x14 and x16, and goes on behind it, fires or traps
+-- it keeps x16, and goes on behind it, fires or traps
 abbrev pub drifts_as : Class → Ins → Bool
 drifts_as class.Compute i = is_other i.rd
 drifts_as class.Load i = is_other i.rd
@@ -61,13 +65,6 @@ Drifts (Plain i ∷ xs) = ((drifts i ≡ true) ⊎ Skips i xs) × Drifts xs
 Drifts (Constant r v ∷ xs) = (is_other r ≡ true) × Drifts xs
 Drifts (Go t ∷ xs) = ⊥
 
-abbrev pub count : List Item → ℕ
-count [] = 0
-count (Mark m ∷ xs) = count xs
-count (Plain i ∷ xs) = 1 + count xs
-count (Constant r v ∷ xs) = 2 + count xs
-count (Go t ∷ xs) = 1 + count xs
-
 abbrev pub behind : List Item → List Item
 behind [] = []
 behind (x ∷ xs) = xs
@@ -87,12 +84,16 @@ drifts_append (Plain i ∷ xs) ys h k = (⊎_elim (λ d. inl d) (λ s. inr (s.0,
 drifts_append (Constant r v ∷ xs) ys h k = (h.0, drifts_append xs ys h.1 k)
 drifts_append (Go t ∷ xs) ys h k = absurd h
 
-pub size_count : (xs : List Item) → sum_of_sizes false xs ≡ 4 * count xs
-size_count [] = refl
-size_count (Mark m ∷ xs) = let e = size_count xs in omega (arith, e)
-size_count (Plain i ∷ xs) = let e = size_count xs in omega (arith, e)
-size_count (Constant r v ∷ xs) = let e = size_count xs in omega (arith, e)
-size_count (Go t ∷ xs) = let e = size_count xs in omega (arith, e)
+-- no more steps than words
+pub size_cost : (xs : List Item) → 4 * cost xs ≤ sum_of_sizes false xs
+size_cost [] = omega arith
+size_cost (Mark m ∷ xs) = let e = size_cost xs in omega (arith, e)
+size_cost (Plain i ∷ xs) = by (is_break i.kind) (cost xs) (sum_of_sizes false xs) (size_cost xs) where
+  by : (b : Bool) (m n : ℕ) → 4 * m ≤ n → 4 * (cond b 0 1 + m) ≤ 4 + n
+  by true m n e = omega (arith, e)
+  by false m n e = omega (arith, e)
+size_cost (Constant r v ∷ xs) = let e = size_cost xs in omega (arith, e)
+size_cost (Go t ∷ xs) = let e = size_cost xs in omega (arith, e)
 
 pub drifts_guard : (r : ℕ) → Drifts (guard r)
 drifts_guard r = by (r == 0) where
@@ -112,11 +113,11 @@ drifts_guards_of i = drifts_append (guard i.rs1) (cond (i.rs2 == i.rs1) [] (guar
 
 -- a register below x14, or a pair
 other_low : (r : ℕ) → r ≤ LAST_ORIGINAL → is_other r ≡ true
-other_low r h = and_from _ _ (ap not (ne_eqb r 14 (λ e. absurd (omega (arith, h, e))))) (ap not (ne_eqb r 16 (λ e. absurd (omega (arith, h, e)))))
+other_low r h = ap not (ne_eqb r 16 (λ e. absurd (omega (arith, h, e))))
 
 other_pair : (r : ℕ) → is_other (pair r) ≡ true
 other_pair zero = refl
-other_pair (suc r) = and_from _ _ (ap not (ne_eqb (suc r + PAIR_DISTANCE) 14 (λ e. absurd (omega (arith, e))))) (ap not (ne_eqb (suc r + PAIR_DISTANCE) 16 (λ e. absurd (omega (arith, e)))))
+other_pair (suc r) = ap not (ne_eqb (suc r + PAIR_DISTANCE) 16 (λ e. absurd (omega (arith, e))))
 
 pub drifts_links : (i : Ins) (at : ℕ) → i.rd ≤ LAST_ORIGINAL → Drifts (links i at)
 drifts_links i at h = by (i.rd == 0) where
@@ -180,38 +181,74 @@ drifts_each : (part : Ins → ℕ → List Item) → ((i : Ins) (at : ℕ) → F
 drifts_each part h [] at f = tt
 drifts_each part h (i ∷ is) at f = drifts_append (part i at) (each_part part is (at + 4)) (h i at f.0) (drifts_each part h is (at + 4) f.1)
 
-pub drifts_piece : (other : Bool) (is : List Ins) (at : ℕ) → AllFit is → Drifts (each_part original is at ++ each_part (mirror_of other) is at)
-drifts_piece other is at f = drifts_append (each_part original is at) (each_part (mirror_of other) is at) (drifts_each original drifts_original is at f) (drifts_each (mirror_of other) (drifts_mirror other) is at f)
+drifts_both : (other : Bool) (is : List Ins) (at : ℕ) → AllFit is → Drifts (both_parts other is at)
+drifts_both other is at f = drifts_append (each_part original is at) (each_part (mirror_of other) is at) (drifts_each original drifts_original is at f) (drifts_each (mirror_of other) (drifts_mirror other) is at f)
+
+drifts_store : (i : Ins) → class_of i.kind ≡ class.Store → Drifts (store_part i)
+drifts_store i k =
+    let stores : drifts (ins i.kind 0 TEMPORARY (pair i.rs2) i.imm) ≡ true = subst (λ c. drifts_as c (ins i.kind 0 TEMPORARY (pair i.rs2) i.imm) ≡ true) (sym k) refl in
+    (inl refl, (inl refl, (inr (refl, refl, tt), (inl refl, drifts_append (guard_value i) (Plain i ∷ mirrored_store i ∷ []) (by (i.rs2 == i.rs1)) (inl (writes_as i class.Store k refl), (inl stores, tt)))))) where
+      by : (b : Bool) → Drifts (cond b [] (guard i.rs2))
+      by true = tt
+      by false = drifts_guard i.rs2
+
+fit_push : (is : List Ins) (i : Ins) → AllFit is → FitsPiece i → AllFit (is ++ i ∷ [])
+fit_push [] i f g = (g, tt)
+fit_push (j ∷ is) i f g = (f.0, fit_push is i f.1 g)
+
+drifts_with : (other : Bool) (is begun : List Ins) (at : ℕ) → AllFit begun → AllFit is → Drifts (parts_with other begun at is)
+drifts_with other [] begun at f g = drifts_both other begun at f
+drifts_with other (i ∷ is) begun at f g = by (is_store (class_of i.kind)) refl (drifts_with other is [] (at + 4 * length begun + 4) tt g.1) (drifts_with other is (begun ++ i ∷ []) at (fit_push begun i f g.0) g.1) where
+  by :
+      (b : Bool) → is_store (class_of i.kind) ≡ b → Drifts (parts_with other [] (at + 4 * length begun + 4) is) → Drifts (parts_with other (begun ++ i ∷ []) at is)
+      → Drifts (cond b (both_parts other begun at ++ (store_part i ++ parts_with other [] (at + 4 * length begun + 4) is)) (parts_with other (begun ++ i ∷ []) at is))
+  by true e rest more = drifts_append (both_parts other begun at) (store_part i ++ parts_with other [] (at + 4 * length begun + 4) is) (drifts_both other begun at f) (drifts_append (store_part i) (parts_with other [] (at + 4 * length begun + 4) is) (drifts_store i (store_class (class_of i.kind) e)) rest)
+  by false e rest more = more
+
+pub drifts_piece : (other : Bool) (is : List Ins) (at : ℕ) → AllFit is → Drifts (piece other is at)
+drifts_piece other is at f = drifts_with other is [] at tt f
+
+-- ---- parts of leaves
+pub drifts_distance : (d : ℕ) → Drifts (check_distance d)
+drifts_distance d = (inl refl, (inr (refl, refl, tt), (inl refl, tt)))
+
+pub drifts_way : (k : Kind) (i : Ins) → class_of k ≡ class.Branch → Drifts (check_way k i)
+drifts_way k i c = (inr (c, refl, tt), (inl refl, tt))
 
 -- ---- runs
--- within so many steps the run is over, or comes to such a state
+-- within `most` steps the run comes to such a state, or to one whose next step fires or traps
 pub record Comes (P : State → Type 0) (u : State) (most : ℕ) : Type 0 where
   pub steps : ℕ
   pub within : steps ≤ most
-  pub is : IsOver (run u steps).outcome ⊎ P (run u steps)
+  pub is : IsOver (run u (steps + 1)).outcome ⊎ P (run u steps)
 
 pub comes_none : (P : State → Type 0) (u : State) (most : ℕ) → P u → Comes P u most
 unfolding run
 comes_none P u most p = record { steps = 0; within = omega arith; is = inr p }
 
+pub comes_over : (P : State → Type 0) (u : State) (most : ℕ) → IsOver (step u).outcome → Comes P u most
+comes_over P u most o = record { steps = 0; within = omega arith; is = inl (subst (λ y. IsOver y.outcome) (sym (one_run u)) o) }
+
 pub comes_one : (P : State → Type 0) (u : State) → IsOver (step u).outcome ⊎ P (step u) → Comes P u 1
-unfolding run
-comes_one P u h = record { steps = 1; within = omega arith; is = h }
+comes_one P u h = ⊎_elim (λ o. comes_over P u 1 o) (λ p. record { steps = 1; within = omega arith; is = inr (subst P (sym (one_run u)) p) }) h
 
 pub comes_more : (P : State → Type 0) (u : State) (m n : ℕ) → m ≤ n → Comes P u m → Comes P u n
 comes_more P u m n h c = record { steps = c.steps; within = omega (arith, h, c.within); is = c.is }
 
--- with what holds of each state of the run
-pub comes_with : (P Q : State → Type 0) (u : State) (n : ℕ) → Comes P u n → ((k : ℕ) → Q (run u k)) → Comes (λ y. P y × Q y) u n
-comes_with P Q u n c q = record { steps = c.steps; within = c.within; is = ⊎_elim (λ o. inl o) (λ p. inr (p, q c.steps)) c.is }
+-- behind a run to another state
+pub comes_behind : (P : State → Type 0) (u y : State) (m n : ℕ) → run u m ≡ y → Comes P y n → Comes P u (m + n)
+comes_behind P u y m n e c =
+    let k = c.steps in
+    let one : m + k + 1 ≡ m + (k + 1) = omega arith in
+    let over : run u (m + k + 1) ≡ run y (k + 1) = ap (run u) one ∙ run-more u m (k + 1) ∙ ap (λ z. run z (k + 1)) e in
+    let there : run u (m + k) ≡ run y k = run-more u m k ∙ ap (λ z. run z k) e in
+    record { steps = m + k; within = omega (arith, c.within); is = ⊎_elim (λ o. inl (subst (λ z. IsOver z.outcome) (sym over) o)) (λ p. inr (subst P (sym there) p)) c.is }
 
 pub comes_on : (P Q : State → Type 0) (u : State) (m n : ℕ) → Comes P u m → ((y : State) → P y → Comes Q y n) → Comes Q u (m + n)
 comes_on P Q u m n c f =
     ⊎_elim
     (λ o. record { steps = c.steps; within = omega (arith, c.within); is = inl o })
-    (λ p.
-    let d = f (run u c.steps) p in
-    record { steps = c.steps + d.steps; within = omega (arith, c.within, d.within); is = subst (λ y. IsOver y.outcome ⊎ Q y) (sym (run-more u c.steps d.steps)) d.is })
+    (λ p. comes_more Q u (c.steps + n) (m + n) (omega (arith, c.within)) (comes_behind Q u (run u c.steps) c.steps n refl (f (run u c.steps) p)))
     c.is
 
 module _ (w : World) where
@@ -267,16 +304,20 @@ module _ (w : World) where
   -- ---- several
   -- from the begin of such words
   abbrev Good : List Item → Type 0
-  Good xs = (x : ℕ) (u : State) (rest : List Item) → Astray x u → Reads false w.code w.entry u.pc (xs ++ rest) → Comes (Before x rest) u (count xs)
+  Good xs = (x : ℕ) (u : State) (rest : List Item) → Astray x u → Reads false w.code w.entry u.pc (xs ++ rest) → Comes (Before x rest) u (cost xs)
 
   -- a word goes on to the next, or is over
   on_word :
       (x : ℕ) (u : State) (i : Ins) (xs rest : List Item) → Astray x u → Reads false w.code w.entry u.pc (Plain i ∷ xs ++ rest) → drifts i ≡ true → Good xs
-      → Comes (Before x rest) u (1 + count xs)
-  on_word x u i xs rest a r d good =
-      comes_on (Before x (xs ++ rest)) (Before x rest) u 1 (count xs)
-      (comes_one (Before x (xs ++ rest)) u (⊎_elim (λ o. inl o) (λ g. inr (g.0, subst (λ p. Reads false w.code w.entry p (xs ++ rest)) (sym g.1) r.1)) (word_step x u i a r.0 d)))
-      (λ y b. good x y rest b.0 b.1)
+      → Comes (Before x rest) u (cond (is_break i.kind) 0 1 + cost xs)
+  unfolding execute
+  on_word x u i xs rest a r d good = by (is_break i.kind) refl where
+    by : (b : Bool) → is_break i.kind ≡ b → Comes (Before x rest) u (cond b 0 1 + cost xs)
+    by true e = comes_over (Before x rest) u (0 + cost xs) (inl (ap (λ s. s.outcome) (step-class u i class.Break a.going (known_at w.code u i (over_of x u a) r.0) (break_is i.kind e))))
+    by false e =
+        comes_on (Before x (xs ++ rest)) (Before x rest) u 1 (cost xs)
+        (comes_one (Before x (xs ++ rest)) u (⊎_elim (λ o. inl o) (λ g. inr (g.0, subst (λ p. Reads false w.code w.entry p (xs ++ rest)) (sym g.1) r.1)) (word_step x u i a r.0 d)))
+        (λ y b. good x y rest b.0 b.1)
 
   reads_behind : (p : ℕ) (xs rest : List Item) → Begins xs → Reads false w.code w.entry p (xs ++ rest) → Reads false w.code w.entry (p + 4) (behind xs ++ rest)
   reads_behind p [] rest h r = absurd h
@@ -285,22 +326,24 @@ module _ (w : World) where
   reads_behind p (Constant q v ∷ xs) rest h r = absurd h
   reads_behind p (Go t ∷ xs) rest h r = absurd h
 
-  count_behind : (xs : List Item) → count (behind xs) ≤ count xs
-  count_behind [] = omega arith
-  count_behind (Mark m ∷ xs) = omega arith
-  count_behind (Plain i ∷ xs) = omega arith
-  count_behind (Constant q v ∷ xs) = omega arith
-  count_behind (Go t ∷ xs) = omega arith
+  cost_behind : (xs : List Item) → cost (behind xs) ≤ cost xs
+  cost_behind [] = omega arith
+  cost_behind (Mark m ∷ xs) = omega arith
+  cost_behind (Plain i ∷ xs) = omega arith
+  cost_behind (Constant q v ∷ xs) = omega arith
+  cost_behind (Go t ∷ xs) = omega arith
 
   -- a branch over a word goes on to it, or behind it
   on_skip :
       (x : ℕ) (u : State) (i : Ins) (xs rest : List Item) → Astray x u → Reads false w.code w.entry u.pc (Plain i ∷ xs ++ rest) → Skips i xs → Good xs → Good (behind xs)
-      → Comes (Before x rest) u (1 + count xs)
+      → Comes (Before x rest) u (cond (is_break i.kind) 0 1 + cost xs)
   unfolding execute jumped
   on_skip x u i xs rest a r s good far =
-      comes_on (λ y. Before x (xs ++ rest) y ⊎ Before x (behind xs ++ rest) y) (Before x rest) u 1 (count xs)
+      let counts : cond {A = ℕ} (is_break i.kind) 0 1 ≡ 1 = ap (λ b. cond {A = ℕ} b 0 1) (no_break i.kind class.Branch s.0 (λ e. absurd (cc))) in
+      subst (λ n. Comes (Before x rest) u (n + cost xs)) (sym counts)
+      (comes_on (λ y. Before x (xs ++ rest) y ⊎ Before x (behind xs ++ rest) y) (Before x rest) u 1 (cost xs)
       (comes_one _ u (inr (by (holds i.kind (reg u i.rs1) (reg u i.rs2)) (step-class u i class.Branch a.going (known_at w.code u i (over_of x u a) r.0) s.0))))
-      (λ y b. ⊎_elim (λ h. good x y rest h.0 h.1) (λ h. comes_more (Before x rest) y (count (behind xs)) (count xs) (count_behind xs) (far x y rest h.0 h.1)) b) where
+      (λ y b. ⊎_elim (λ h. good x y rest h.0 h.1) (λ h. comes_more (Before x rest) y (cost (behind xs)) (cost xs) (cost_behind xs) (far x y rest h.0 h.1)) b)) where
         there : (p : ℕ) → step u ≡ moved u.regs p u → Astray x (step u) × ((step u).pc ≡ p)
         there p e = (record { going = ap (λ z. z.outcome) e ∙ a.going; standing = standing_step w.code w.output w.output_fixed u a.standing; sign = ap (λ z. reg z SIGNATURE) e ∙ a.sign }, ap (λ z. z.pc) e)
 
@@ -322,15 +365,15 @@ module _ (w : World) where
   abbrev second : ℕ → ℕ → ℕ → Ins
   second p r v = ins Addi r r 0 (lower_part (distance_between p v))
 
-  on_second : (x p : ℕ) (u : State) (r v : ℕ) (xs rest : List Item) → Astray x u → is_other r ≡ true → w.code u.pc ≡ Known (second p r v) → Reads false w.code w.entry (u.pc + 4) (xs ++ rest) → Good xs → Comes (Before x rest) u (1 + count xs)
+  on_second : (x p : ℕ) (u : State) (r v : ℕ) (xs rest : List Item) → Astray x u → is_other r ≡ true → w.code u.pc ≡ Known (second p r v) → Reads false w.code w.entry (u.pc + 4) (xs ++ rest) → Good xs → Comes (Before x rest) u (1 + cost xs)
   on_second x p u r v xs rest a ne h more good = on_word x u (second p r v) xs rest a (h, more) ne good
 
-  on_constant : (x : ℕ) (u : State) (r v : ℕ) (xs rest : List Item) → Astray x u → Reads false w.code w.entry u.pc (Constant r v ∷ xs ++ rest) → is_other r ≡ true → Good xs → Comes (Before x rest) u (2 + count xs)
+  on_constant : (x : ℕ) (u : State) (r v : ℕ) (xs rest : List Item) → Astray x u → Reads false w.code w.entry u.pc (Constant r v ∷ xs ++ rest) → is_other r ≡ true → Good xs → Comes (Before x rest) u (2 + cost xs)
   on_constant x u r v xs rest a h ne good =
       let i = ins Auipc r 0 0 (upper_part (distance_between u.pc v)) in
       let P : State → Type 0 = λ y. Astray x y × (y.pc ≡ u.pc + 4) in
-      comes_more (Before x rest) u (1 + (1 + count xs)) (2 + count xs) (omega arith)
-      (comes_on P (Before x rest) u 1 (1 + count xs) (comes_one P u (word_step x u i a h.0 ne))
+      comes_more (Before x rest) u (1 + (1 + cost xs)) (2 + cost xs) (omega arith)
+      (comes_on P (Before x rest) u 1 (1 + cost xs) (comes_one P u (word_step x u i a h.0 ne))
       (λ y b.
       let far : u.pc + 8 ≡ y.pc + 4 = let e = b.1 in omega (arith, e) in
       on_second x u.pc y r v xs rest b.0 ne (ap w.code b.1 ∙ h.1) (subst (λ p. Reads false w.code w.entry p (xs ++ rest)) far h.2) good))
@@ -348,21 +391,21 @@ module _ (w : World) where
   both (Go t ∷ xs) d = absurd d
 
   -- ---- the law
-  pub drift : (xs : List Item) → Drifts xs → (x : ℕ) (u : State) (rest : List Item) → Astray x u → Reads false w.code w.entry u.pc (xs ++ rest) → Comes (Before x rest) u (count xs)
+  pub drift : (xs : List Item) → Drifts xs → (x : ℕ) (u : State) (rest : List Item) → Astray x u → Reads false w.code w.entry u.pc (xs ++ rest) → Comes (Before x rest) u (cost xs)
   drift xs d = (both xs d).0
 
   -- from any word of them, or behind them
   pub drift_from :
-      (xs : List Item) → Drifts xs → (k p x : ℕ) (u : State) (rest : List Item) → k ≤ count xs → Astray x u → u.pc ≡ p + 4 * k → Reads false w.code w.entry p (xs ++ rest)
-      → Comes (Before x rest) u (count xs)
+      (xs : List Item) → Drifts xs → (k p x : ℕ) (u : State) (rest : List Item) → 4 * k ≤ sum_of_sizes false xs → Astray x u → u.pc ≡ p + 4 * k → Reads false w.code w.entry p (xs ++ rest)
+      → Comes (Before x rest) u (cost xs)
   drift_from xs d zero p x u rest h a at r = drift xs d x u rest a (subst (λ q. Reads false w.code w.entry q (xs ++ rest)) (let e : p ≡ u.pc = omega (arith, at) in e) r)
   drift_from [] d (suc k) p x u rest h a at r = absurd (omega (arith, h))
   drift_from (Mark m ∷ xs) d (suc k) p x u rest h a at r = absurd d
-  drift_from (Plain i ∷ xs) d (suc k) p x u rest h a at r = comes_more (Before x rest) u (count xs) (1 + count xs) (omega arith) (drift_from xs d.1 k (p + 4) x u rest (omega (arith, h)) a (omega (arith, at)) r.1)
+  drift_from (Plain i ∷ xs) d (suc k) p x u rest h a at r = comes_more (Before x rest) u (cost xs) (cond (is_break i.kind) 0 1 + cost xs) (omega arith) (drift_from xs d.1 k (p + 4) x u rest (omega (arith, h)) a (omega (arith, at)) r.1)
   drift_from (Constant q v ∷ xs) d (suc zero) p x u rest h a at r =
       let there : p + 4 ≡ u.pc = omega (arith, at) in
       let far : p + 8 ≡ u.pc + 4 = omega (arith, at) in
-      comes_more (Before x rest) u (1 + count xs) (2 + count xs) (omega arith)
+      comes_more (Before x rest) u (1 + cost xs) (2 + cost xs) (omega arith)
       (on_second x p u q v xs rest a d.0 (ap w.code (sym there) ∙ r.1) (subst (λ z. Reads false w.code w.entry z (xs ++ rest)) far r.2) (drift xs d.1))
-  drift_from (Constant q v ∷ xs) d (suc (suc k)) p x u rest h a at r = comes_more (Before x rest) u (count xs) (2 + count xs) (omega arith) (drift_from xs d.1 k (p + 8) x u rest (omega (arith, h)) a (omega (arith, at)) r.2)
+  drift_from (Constant q v ∷ xs) d (suc (suc k)) p x u rest h a at r = comes_more (Before x rest) u (cost xs) (2 + cost xs) (omega arith) (drift_from xs d.1 k (p + 8) x u rest (omega (arith, h)) a (omega (arith, at)) r.2)
   drift_from (Go t ∷ xs) d (suc k) p x u rest h a at r = absurd d

@@ -1,14 +1,12 @@
--- The leave of an ECALL: all registers and the signature are compared, with the sweep all data words and once more all registers, and the test ends.
-use Rattle.std.proofs.Common.{◌≡◌, ℕ, ◌+◌, ◌*◌, ◌%◌, ◌^◌, ◌<◌, ◌≤◌, ⊎_elim, Bool, true, false, cond, List, [], ◌∷◌, ◌++◌, length, refl, sym, ap, ◌∙◌, subst, arith}
-use Rattle.std.proofs.lemmas.Bool.{false≢true, cases_Bool}
+-- The leave of an ECALL: all registers, the distance and the signature are compared, with the sweep all data words and once more all registers, and the test ends.
+use Rattle.std.proofs.Common.{◌≡◌, ℕ, ◌+◌, ◌^◌, ◌<◌, ◌≤◌, ⊎_elim, Bool, true, false, cond, List, [], ◌∷◌, ◌++◌, length, refl, sym, ap, ◌∙◌, subst, arith}
+use Rattle.std.proofs.lemmas.Bool.{false≢true}
 use Rattle.std.proofs.lemmas.List.{append-nil}
-use Rattle.rv_isa.specs.declared.kind.Kind.{Kind}
-use Rattle.rv_isa.specs.declared.kind.Kind.TheVariants.{Ebreak}
 use Rattle.rv_isa.specs.declared.class.Class.TheVariants as class
 use Rattle.tests.specs.Admission.DataRanges.{word_count}
 use Rattle.qed_model.specs.Weave.Bounds.{end_bound}
-use Rattle.qed_model.specs.Weave.Sequences.{compare, sweep, before_end, ORIGINALS, SIGNATURE}
-use Rattle.qed_model.specs.Weave.Lean.{check_sign, leave_as, is_break, cost}
+use Rattle.qed_model.specs.Weave.Sequences.{check_sign, compare, sweep, before_end, ORIGINALS, SIGNATURE}
+use Rattle.qed_model.specs.Weave.Lean.{check_distance, leave_as, is_break, cost}
 use Rattle.machine.proofs.Lemmas.{over_moved, known_at, run-more, Walk, walk_on}
 use Rattle.weave_core.specs.World.{World, Quiet, Twice, Item, Plain, Ended, State, reg, moved, stopped, Known, step, run, Ins, class_of}
 use Rattle.weave_core.specs.Kinds.{originals}
@@ -17,16 +15,8 @@ use Rattle.weave_core.specs.Leaving.{swept_end, sweep_cost}
 use Rattle.weave_core.specs.WeaveLaws.{Holds, GoesTo, Ends, Swept}
 use Rattle.weave_core.proofs.Lemmas.{own_pair, guards_pass, quiet_sweep, step-end, end_walk, writes, halved_writes, none_run, all_small}
 use Rattle.lean.specs.Woven.{swept_steps}
-use Rattle.lean.proofs.Weave.Chain.{all_temps}
-use Rattle.lean.proofs.Weave.Sign.{rest_of, tested, passes, same_bits}
-
--- an ECALL is no EBREAK
-break_is : (k : Kind) → is_break k ≡ true → class_of k ≡ class.Break
-break_is Ebreak e = refl
-break_is k e = absurd (false≢true e)
-
-no_break : (k : Kind) → class_of k ≡ class.End → is_break k ≡ false
-no_break k c = ⊎_elim (λ e. let x : class.Break ≡ class.End = sym (break_is k e) ∙ c in absurd (cc)) (λ e. e) (cases_Bool (is_break k))
+use Rattle.lean.proofs.Weave.Chain.{read_back, all_temps, no_break}
+use Rattle.lean.proofs.Weave.Sign.{distance_set, passes}
 
 -- states that ended have the values
 ended_holds : (w : World) (u s : State) → Twice w u s s → Holds w (stopped Ended u) (stopped Ended s)
@@ -89,26 +79,29 @@ end_rest w u s i at so h c = by w.form.sweep refl at where
     is = (record { ended = refl; holds = subst (Holds w (stopped Ended u)) (sym e) (ended_holds w u s a.halved); input = input }, λ sw. absurd (false≢true (sym is ∙ sw)));
   }
 
-module _ (w : World) (u s : State) (i : Ins) (fall : ℕ → List Item) (a off : ℕ) (at : At w u (leave_as (before_end w.form) fall class.End i a s.pc) s s) (so : Sourced w s) (low : a < 2 ^ 64) (few : off < 2 ^ 32) (sign : reg u SIGNATURE ≡ (a + off * 2 ^ 32) % 2 ^ 64) where
-  pub end_leave : w.source s.pc ≡ Known i → class_of i.kind ≡ class.End → GoesTo w u 1 (cost (leave_as [] fall class.End i a s.pc) + swept_steps w) (λ n x. Ends w (step s) x × Sweeps w u n)
+module _ (w : World) (u s : State) (i : Ins) (fall : ℕ → List Item) (a : ℕ) (at : At w u (leave_as w.distance (before_end w.form) fall class.End i a s.pc) s s) (so : Sourced w s) (low : a < 2 ^ 64) (small : w.distance < 2 ^ 64) (sign : reg u SIGNATURE ≡ a) where
+  pub end_leave : w.source s.pc ≡ Known i → class_of i.kind ≡ class.End → GoesTo w u 1 (cost (leave_as 0 [] fall class.End i a s.pc) + swept_steps w) (λ n x. Ends w (step s) x × Sweeps w u n)
   end_leave h c =
       let t = at.halved in
       let last = before_end w.form ++ (Plain i ∷ []) in
-      let s1 = guards_pass w originals u (check_sign a ++ last) at.over (λ q one m. own_pair w u s q t m one) (all_small w) at.reads in
+      let s1 = guards_pass w originals u (check_distance w.distance ++ (check_sign a ++ last)) at.over (λ q one m. own_pair w u s q t m one) (all_small w) at.reads in
       let x1 = moved u.regs s1.pc u in
-      let o1 = over_moved w.code u u.regs s1.pc at.over in
-      let same : rest_of a (reg x1 SIGNATURE) ≡ 0 = ap (rest_of a) sign ∙ same_bits a off low few in
-      let s2 = passes w x1 a last low o1 t.output.regs t.output.zero_reg s1.reads same in
-      let ws = tested a (reg u SIGNATURE) in
-      let x2 = moved (writes ws u.regs) (s1.pc + 24) u in
-      let r = end_rest w x2 s i (record { over = over_moved w.code u (writes ws u.regs) (s1.pc + 24) at.over; reads = s2.reads; halved = halved_writes w u s s ws (s1.pc + 24) (all_temps ws refl) t }) so h c in
-      let walk : Walk (Quiet w) u 18 x2 = walk_on (Quiet w) u x1 x2 ORIGINALS 5 s1.walk s2.walk in
-      let one : cond {A = ℕ} (is_break i.kind) 0 1 ≡ 1 = ap (λ b. cond {A = ℕ} b 0 1) (no_break i.kind c) in
+      let w2 : List (ℕ × ℕ) = (30, w.distance) ∷ [] in
+      let s2 = distance_set w x1 w.distance (check_sign a ++ last) (over_moved w.code u u.regs s1.pc at.over) t.output.regs t.distance small s1.reads in
+      let l2 = writes w2 u.regs in
+      let x2 = moved l2 s2.pc u in
+      let h2 = halved_writes w u s s w2 s2.pc (all_temps w2 refl) t in
+      let s3 = passes w x2 a last low (over_moved w.code u l2 s2.pc at.over) h2.output.regs s2.reads (read_back w2 u.regs 16 t.output.regs refl ∙ sign) in
+      let w3 : List (ℕ × ℕ) = (30, a) ∷ [] in
+      let x3 = moved (writes w3 l2) (s2.pc + 16) u in
+      let r = end_rest w x3 s i (record { over = over_moved w.code u (writes w3 l2) (s2.pc + 16) at.over; reads = s3.reads; halved = halved_writes w x2 s s w3 (s2.pc + 16) (all_temps w3 refl) h2 }) so h c in
+      let walk : Walk (Quiet w) u 18 x3 = walk_on (Quiet w) u x1 x3 ORIGINALS 5 s1.walk (walk_on (Quiet w) x1 x2 x3 2 3 s2.walk s3.walk) in
+      let one : cond {A = ℕ} (is_break i.kind) 0 1 ≡ 1 = ap (λ b. cond {A = ℕ} b 0 1) (no_break i.kind class.End c (λ e. absurd (cc))) in
       record {
         steps = 18 + r.steps;
         to = r.to;
         at_least = omega arith;
         within = omega (arith, one, r.within);
-        walk = walk_on (Quiet w) u x2 r.to 18 r.steps walk r.walk;
-        is = (r.is.0, swept_on w u x2 18 r.steps walk r.is.1);
+        walk = walk_on (Quiet w) u x3 r.to 18 r.steps walk r.walk;
+        is = (r.is.0, swept_on w u x3 18 r.steps walk r.is.1);
       }

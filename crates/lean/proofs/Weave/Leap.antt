@@ -1,55 +1,56 @@
--- The leave of a JALR: the pair turns the signature, the guarded original is looked up in the table.
+-- The leave of a JALR: the pair turns the signature, the guarded original is looked up in the table, and so is the signature.
 use Rattle.std.proofs.Common.{◌≡◌, ℕ, zero, suc, ◌+◌, ◌-◌, ◌*◌, ◌/◌, ◌%◌, ◌^◌, ◌<◌, ◌≤◌, inl, inr, ⊎_elim, Bool, true, List, [], ◌∷◌, ◌++◌, length, refl, sym, ap, ◌∙◌, subst, arith}
-use Rattle.std.specs.Prelude.{pos, neg_ℤ}
+use Rattle.std.specs.Prelude.{pos, neg_ℤ, slice_index}
 use Rattle.rv_isa.specs.declared.class.Class.TheVariants as class
 use Rattle.machine.specs.Table.{ins, Ins, Add, Addi, Andi, Sub}
 use Rattle.qed_model.specs.Promise.Kept.{NotTrapped}
 use Rattle.qed_model.specs.Weave.Sequences.{Reads, guard, links, LAST_ORIGINAL, CURSOR, SIGNATURE, TEMPORARY, pair}
-use Rattle.qed_model.specs.Weave.Lean.{look_up, leave_as, cost}
+use Rattle.qed_model.specs.Weave.Lean.{turn_leap, called, check_distance, look_up, look_again, leave_as, cost}
 use Rattle.qed_model.specs.Weave.LeanCode.{fall_to}
 use Rattle.machine.proofs.Lemmas.{Over, over_moved, Walk, walk_none, walk_on}
 use Rattle.weave_core.specs.World.{World, Quiet, Twice, Item, Plain, State, reg, moved, imm, next_pc, Known, step, class_of, set_reg}
 use Rattle.weave_core.specs.Blocks.{IsEntryOf, Goes, TableAt}
 use Rattle.weave_core.specs.Rows.{At, Sourced}
 use Rattle.weave_core.specs.WeaveLaws.{lands, is_lost}
-use Rattle.weave_core.proofs.Lemmas.{own_pair, aim, Leaps, leap_step, addi_value, andi_value, linked, linked_out, links_sets, leap_there, halved_original, halved_pair, halved_moved, pair_value, Sets, writes, halved_writes, add_result}
+use Rattle.weave_core.proofs.Lemmas.{own_pair, aim, Leaps, leap_step, addi_value, andi_value, linked, linked_out, links_sets, halved_original, halved_pair, halved_moved, pair_value, Sets, writes, halved_writes, add_result, sub_result, sets_equal}
 use Rattle.lean.proofs.Weave.Chain.{Op, plain, constant, effects, Gives, read_back, all_temps, chain, cost_append}
-use Rattle.lean.proofs.Weave.Check.{sub_value}
+use Rattle.lean.proofs.Weave.Check.{look_there}
 use Rattle.lean.proofs.Weave.Leave.{Went, guard_cost, linking, link_words}
+use Rattle.lean.proofs.Weave.Sign.{distance_set}
 
--- taking the block's address away leaves the target and the offset
-leaves_target : (a k x y : ℕ) → a % 2 ≡ 0 → k % 2 ≡ 0 → a < 2 ^ 64 → ((((a + k) % 2 ^ 64 + x) % 2 ^ 64 + y) % 2 ^ 64 / 2 * 2 + (2 ^ 64 - a)) % 2 ^ 64 ≡ ((x + y) % 2 ^ 64 / 2 * 2 + k) % 2 ^ 64
-leaves_target a k x y ea ek low = omega (arith, ea, ek, low)
+-- taking the block's address away leaves the target
+leaves_target : (a x y : ℕ) → a % 2 ≡ 0 → a < 2 ^ 64 → (((a + x) % 2 ^ 64 + y) % 2 ^ 64 / 2 * 2 + (2 ^ 64 - a)) % 2 ^ 64 ≡ (x + y) % 2 ^ 64 / 2 * 2
+leaves_target a x y ea low = omega (arith, ea, low)
 
--- ---- the words of the leave, in the block at a, for an offset of the signature and a value of the register
-module _ (i : Ins) (a k value : ℕ) where
+-- ---- the words of the leave, in the block at a, for a signature and a value of the register
+module _ (i : Ins) (a sign value : ℕ) where
   abbrev pub sum : ℕ
   sum = (value + imm i) % 2 ^ 64
 
   -- the signature on the way
   abbrev v1 : ℕ
-  v1 = ((a + k) % 2 ^ 64 + value) % 2 ^ 64
+  v1 = (sign + value) % 2 ^ 64
 
   abbrev v2 : ℕ
   v2 = (v1 + imm i) % 2 ^ 64
 
   abbrev pub signed : ℕ
-  signed = (sum / 2 * 2 + k) % 2 ^ 64
+  signed = (v2 / 2 * 2 + (2 ^ 64 - a)) % 2 ^ 64
 
   abbrev pub turn_ops : List Op
   turn_ops =
       plain (ins Add SIGNATURE SIGNATURE (pair i.rs1) (pos 0)) v1 ∷ plain (ins Addi SIGNATURE SIGNATURE 0 i.imm) v2 ∷ plain (ins Andi SIGNATURE SIGNATURE 0 (neg_ℤ (pos 2))) (v2 / 2 * 2) ∷ constant 30 a ∷
       plain (ins Sub SIGNATURE SIGNATURE TEMPORARY (pos 0)) signed ∷ []
 
-  pub turn_gives : (u : State) → length u.regs ≡ 32 → reg u SIGNATURE ≡ (a + k) % 2 ^ 64 → reg u (pair i.rs1) ≡ value → a < 2 ^ 64 → a % 2 ≡ 0 → k % 2 ≡ 0 → Gives u u.regs turn_ops
-  turn_gives u long sign is low even offset =
+  pub turn_gives : (u : State) → length u.regs ≡ 32 → reg u SIGNATURE ≡ sign → reg u (pair i.rs1) ≡ value → a < 2 ^ 64 → Gives u u.regs turn_ops
+  turn_gives u long at is low =
       let l = u.regs in
       let e1 : List (ℕ × ℕ) = (16, v1) ∷ [] in
       let e2 : List (ℕ × ℕ) = (16, v1) ∷ (16, v2) ∷ [] in
       let e4 : List (ℕ × ℕ) = (16, v1) ∷ (16, v2) ∷ (16, v2 / 2 * 2) ∷ (30, a) ∷ [] in (
         refl,
         λ e. absurd (cc),
-        λ p. add_result (moved l p u) 16 16 (pair i.rs1) ((a + k) % 2 ^ 64) value v1 sign is refl,
+        λ p. add_result (moved l p u) 16 16 (pair i.rs1) sign value v1 at is refl,
         (
           refl,
           λ e. absurd (cc),
@@ -65,7 +66,7 @@ module _ (i : Ins) (a k value : ℕ) where
               (
                 refl,
                 λ e. absurd (cc),
-                λ p. sub_value (moved (writes e4 l) p u) 16 16 30 (v2 / 2 * 2) a signed (read_back e4 l 16 long refl) (read_back e4 l 30 long refl) (leaves_target a k value (imm i) even offset low),
+                λ p. sub_result (moved (writes e4 l) p u) 16 16 30 (v2 / 2 * 2) a signed (read_back e4 l 16 long refl) (read_back e4 l 30 long refl) refl,
                 tt,
               ),
             ),
@@ -94,8 +95,8 @@ module _ (i : Ins) (a k value : ℕ) where
 
 module _ (w : World) (leader : ℕ → Bool) (entries : (a : ℕ) → leader a ≡ true → IsEntryOf w a) where
   -- what is asked of a JALR of the input
-  pub record Leaping (u s : State) (i : Ins) (a k : ℕ) : Type 0 where
-    pub at : At w u (leave_as [] (fall_to leader) class.JumpReg i a s.pc) s s
+  pub record Leaping (u s : State) (i : Ins) (a : ℕ) : Type 0 where
+    pub at : At w u (leave_as w.distance [] (fall_to leader) class.JumpReg i a s.pc) s s
     pub sourced : Sourced w s
     pub first : i.rs1 ≤ LAST_ORIGINAL
     pub link : i.rd ≤ LAST_ORIGINAL
@@ -103,24 +104,27 @@ module _ (w : World) (leader : ℕ → Bool) (entries : (a : ℕ) → leader a �
     pub table : leader (aim s i) ≡ true → TableAt w (aim s i)
     pub low : a < 2 ^ 64
     pub even : a % 2 ≡ 0
-    pub offset : k % 2 ≡ 0
-    pub sign : reg u SIGNATURE ≡ (a + k) % 2 ^ 64
+    pub sign : reg u SIGNATURE ≡ a
 
-  module _ (u s : State) (i : Ins) (a k : ℕ) (x : Leaping u s i a k) where
+  module _ (small : w.distance < 2 ^ 64) (u s : State) (i : Ins) (a : ℕ) (x : Leaping u s i a) where
     -- the register
     abbrev value : ℕ
     value = reg s i.rs1
 
-    -- before the look-up
+    -- the look-ups
+    abbrev looks : List Item
+    looks = look_up TEMPORARY ++ look_again w.distance
+
+    -- before them
     record Aimed : Type 0 where
       steps : ℕ
       to : State
       some : 1 ≤ steps
-      within : steps ≤ 6 + (cost (guard i.rs1) + (2 + cost (links i s.pc)))
+      within : steps ≤ 8 + (cost (guard i.rs1) + (3 + cost (links i s.pc)))
       walk : Walk (Quiet w) u steps to
-      at : At w to look_up (step s) (step s)
+      at : At w to looks (step s) (step s)
       target : reg to TEMPORARY ≡ aim s i
-      sign : reg to SIGNATURE ≡ signed i a k value
+      sign : reg to SIGNATURE ≡ aim s i
       keeps : reg to CURSOR ≡ reg u CURSOR
 
     -- the words of a return address, with their exact steps
@@ -133,74 +137,109 @@ module _ (w : World) (leader : ℕ → Bool) (entries : (a : ℕ) → leader a �
         let few = link_words w r v in
         (l.steps, omega (arith, l.within, few), l.sets)
 
-    aimed : Leaps w s i → Aimed
-    aimed lp =
+    -- the signature turned, and x14 compared
+    record Turned (rest : List Item) : Type 0 where
+      regs : List ℕ
+      pc : ℕ
+      walk : Walk (Quiet w) u 8 (moved regs pc u)
+      reads : Reads w.form.far w.code w.entry pc rest
+      halved : Twice w (moved regs pc u) s s
+      sign : slice_index regs 16 ≡ aim s i
+      keeps : slice_index regs 15 ≡ reg u CURSOR
+
+    turned : (rest : List Item) → Reads w.form.far w.code w.entry u.pc (turn_leap i a ++ (check_distance w.distance ++ rest)) → Turned rest
+    turned rest r =
         let h = x.at.halved in
         let long = h.output.regs in
-        let v = next_pc s in
-        let tail3 = links i s.pc ++ look_up in
-        let tail2 = Plain (ins Addi TEMPORARY i.rs1 0 i.imm) ∷ Plain (ins Andi TEMPORARY TEMPORARY 0 (neg_ℤ (pos 2))) ∷ tail3 in
-        let turns = turn_ops i a k value in
-        let aims = aim_ops i a k value in
-        let pairs = pair_value w u s s i.rs1 x.at.halved x.first in
-        let s1 = chain w u (guard i.rs1 ++ tail2) x.at.over turns long (turn_gives i a k value u long x.sign pairs x.low x.even x.offset) x.at.reads in
+        let turns = turn_ops i a a value in
+        let s1 = chain w u (check_distance w.distance ++ rest) x.at.over turns long (turn_gives i a a value u long x.sign (pair_value w u s s i.rs1 h x.first) x.low) r in
         let w1 = effects turns in
         let l1 = writes w1 u.regs in
         let x1 = moved l1 s1.pc u in
-        let o1 = over_moved w.code u l1 s1.pc x.at.over in
         let h1 = halved_writes w u s s w1 s1.pc (all_temps w1 refl) h in
-        let g = guard_cost w x1 i.rs1 tail2 o1 s1.reads (own_pair w x1 s i.rs1 h1 x.first) in
+        let s2 = distance_set w x1 w.distance rest (over_moved w.code u l1 s1.pc x.at.over) h1.output.regs h1.distance small s1.reads in
+        let w2 : List (ℕ × ℕ) = (30, w.distance) ∷ [] in
+        let long1 = h1.output.regs in
+        record {
+          regs = writes w2 l1;
+          pc = s2.pc;
+          walk = walk_on (Quiet w) u x1 (moved (writes w2 l1) s2.pc u) 6 2 s1.walk s2.walk;
+          reads = s2.reads;
+          halved = halved_writes w x1 s s w2 s2.pc (all_temps w2 refl) h1;
+          sign = read_back w2 l1 16 long1 refl ∙ read_back w1 u.regs 16 long refl ∙ leaves_target a value (imm i) x.even x.low;
+          keeps = read_back w2 l1 15 long1 refl ∙ read_back w1 u.regs 15 long refl;
+        }
+
+    aimed : Leaps w s i → Aimed
+    aimed lp =
+        let v = next_pc s in
+        let tail4 = links i s.pc ++ looks in
+        let tail3 = called ++ tail4 in
+        let tail2 = Plain (ins Addi TEMPORARY i.rs1 0 i.imm) ∷ Plain (ins Andi TEMPORARY TEMPORARY 0 (neg_ℤ (pos 2))) ∷ tail3 in
+        let aims = aim_ops i a a value in
+        let t1 = turned (guard i.rs1 ++ tail2) x.at.reads in
+        let l1 = t1.regs in
+        let x1 = moved l1 t1.pc u in
+        let o1 = over_moved w.code u l1 t1.pc x.at.over in
+        let h1 = t1.halved in
+        let g = guard_cost w x1 i.rs1 tail2 o1 t1.reads (own_pair w x1 s i.rs1 h1 x.first) in
         let x2 = moved l1 g.pc u in
         let o2 = over_moved w.code u l1 g.pc x.at.over in
         let h2 = halved_moved w x1 s s g.pc h1 in
-        let s3 = chain w x2 tail3 o2 aims h2.output.regs (aim_gives i a k value x2 h2.output.regs (h2.originals i.rs1 x.first)) g.reads in
+        let s3 = chain w x2 tail3 o2 aims h2.output.regs (aim_gives i a a value x2 h2.output.regs (h2.originals i.rs1 x.first)) g.reads in
         let w3 = effects aims in
         let l3 = writes w3 l1 in
         let x3 = moved l3 s3.pc u in
         let o3 = over_moved w.code u l3 s3.pc x.at.over in
         let h3 = halved_writes w x2 s s w3 s3.pc (all_temps w3 refl) h2 in
-        let l4 = links_cost i.rd v x3 look_up o3 s3.reads (omega arith) x.link h3.output.regs in
-        let regs = linked i.rd v l3 in
-        let z = moved regs l4.2.pc u in
-        let h4 : Twice w (moved (set_reg i.rd v l3) s3.pc u) (moved (set_reg i.rd v s.regs) (aim s i) s) s = halved_original w x3 s s i.rd v s3.pc (aim s i) x.link h3 in
-        let h5 : Twice w z (moved (set_reg i.rd v s.regs) (aim s i) s) (moved (set_reg i.rd v s.regs) (aim s i) s) = halved_pair w (moved (set_reg i.rd v l3) s3.pc u) (moved (set_reg i.rd v s.regs) (aim s i) s) s i.rd v l4.2.pc (aim s i) x.link h4 in
         let long1 = h1.output.regs in
+        let at30 : slice_index l3 30 ≡ aim s i = read_back w3 l1 30 long1 refl in
+        let at16 : slice_index l3 16 ≡ aim s i = read_back w3 l1 16 long1 refl ∙ t1.sign in
+        let s4 = sets_equal w x3 16 30 tail4 o3 s3.reads (at16 ∙ sym at30) in
+        let x4 = moved l3 s4.pc u in
+        let h4 = halved_moved w x3 s s s4.pc h3 in
+        let l5 = links_cost i.rd v x4 looks (over_moved w.code u l3 s4.pc x.at.over) s4.reads (omega arith) x.link h4.output.regs in
+        let regs = linked i.rd v l3 in
+        let z = moved regs l5.2.pc u in
+        let h5 : Twice w (moved (set_reg i.rd v l3) s4.pc u) (moved (set_reg i.rd v s.regs) (aim s i) s) s = halved_original w x4 s s i.rd v s4.pc (aim s i) x.link h4 in
+        let h6 : Twice w z (moved (set_reg i.rd v s.regs) (aim s i) s) (moved (set_reg i.rd v s.regs) (aim s i) s) = halved_pair w (moved (set_reg i.rd v l3) s4.pc u) (moved (set_reg i.rd v s.regs) (aim s i) s) s i.rd v l5.2.pc (aim s i) x.link h5 in
         record {
-          steps = 6 + (g.steps + (2 + l4.0));
+          steps = 8 + (g.steps + (3 + l5.0));
           to = z;
           some = omega arith;
-          within = add_up g.steps (cost (guard i.rs1)) l4.0 (cost (links i s.pc)) g.within l4.1;
-          walk = walk_on (Quiet w) u x1 z 6 (g.steps + (2 + l4.0)) s1.walk (walk_on (Quiet w) x1 x2 z g.steps (2 + l4.0) g.walk (walk_on (Quiet w) x2 x3 z 2 l4.0 s3.walk l4.2.walk));
-          at = record { over = over_moved w.code u regs l4.2.pc x.at.over; reads = l4.2.reads; halved = subst (λ y. Twice w z y y) (sym lp.is) h5 };
-          target = linked_out i.rd v 30 l3 x.link (omega arith) (inr (omega arith)) ∙ read_back w3 l1 30 long1 refl;
-          sign = linked_out i.rd v 16 l3 x.link (omega arith) (inl (omega arith)) ∙ read_back w3 l1 16 long1 refl ∙ read_back w1 u.regs 16 long refl;
-          keeps = linked_out i.rd v 15 l3 x.link (omega arith) (inl (omega arith)) ∙ read_back w3 l1 15 long1 refl ∙ read_back w1 u.regs 15 long refl;
+          within = add_up g.steps (cost (guard i.rs1)) l5.0 (cost (links i s.pc)) g.within l5.1;
+          walk = walk_on (Quiet w) u x1 z 8 (g.steps + (3 + l5.0)) t1.walk (walk_on (Quiet w) x1 x2 z g.steps (3 + l5.0) g.walk (walk_on (Quiet w) x2 x4 z 3 l5.0 (walk_on (Quiet w) x2 x3 x4 2 1 s3.walk s4.walk) l5.2.walk));
+          at = record { over = over_moved w.code u regs l5.2.pc x.at.over; reads = l5.2.reads; halved = subst (λ y. Twice w z y y) (sym lp.is) h6 };
+          target = linked_out i.rd v 30 l3 x.link (omega arith) (inr (omega arith)) ∙ at30;
+          sign = linked_out i.rd v 16 l3 x.link (omega arith) (inl (omega arith)) ∙ at16;
+          keeps = linked_out i.rd v 15 l3 x.link (omega arith) (inl (omega arith)) ∙ read_back w3 l1 15 long1 refl ∙ t1.keeps;
         } where
-          add_up : (m c n d : ℕ) → m ≤ c → n ≤ d → 6 + (m + (2 + n)) ≤ 6 + (c + (2 + d))
+          add_up : (m c n d : ℕ) → m ≤ c → n ≤ d → 8 + (m + (3 + n)) ≤ 8 + (c + (3 + d))
           add_up m c n d h e = omega (arith, h, e)
 
     -- ---- all of it
-    leap_cost : cost (leave_as [] (fall_to leader) class.JumpReg i a s.pc) ≡ 6 + (cost (guard i.rs1) + (2 + cost (links i s.pc))) + 5
+    leap_cost : cost (leave_as 0 [] (fall_to leader) class.JumpReg i a s.pc) ≡ 8 + (cost (guard i.rs1) + (3 + cost (links i s.pc))) + 11
     leap_cost =
-        let e = cost_append (guard i.rs1) (Plain (ins Addi TEMPORARY i.rs1 0 i.imm) ∷ Plain (ins Andi TEMPORARY TEMPORARY 0 (neg_ℤ (pos 2))) ∷ (links i s.pc ++ look_up)) in
-        let f = cost_append (links i s.pc) look_up in
+        let some : List Item = look_up TEMPORARY ++ look_again 0 in
+        let e = cost_append (guard i.rs1) (Plain (ins Addi TEMPORARY i.rs1 0 i.imm) ∷ Plain (ins Andi TEMPORARY TEMPORARY 0 (neg_ℤ (pos 2))) ∷ (called ++ (links i s.pc ++ some))) in
+        let f = cost_append (links i s.pc) some in
         omega (arith, e, f)
 
-    pub leap_leave : w.source s.pc ≡ Known i → class_of i.kind ≡ class.JumpReg → NotTrapped (step s) → Went w leader u (step s) 1 (cost (leave_as [] (fall_to leader) class.JumpReg i a s.pc)) k
+    pub leap_leave : w.source s.pc ≡ Known i → class_of i.kind ≡ class.JumpReg → NotTrapped (step s) → Went w leader u (step s) 1 (cost (leave_as 0 [] (fall_to leader) class.JumpReg i a s.pc))
     leap_leave h c calm =
         let lp = leap_step w s i x.sourced h c calm in
         let y = aimed lp in
-        subst (λ n. Went w leader u (step s) 1 n k) (sym leap_cost)
+        subst (λ n. Went w leader u (step s) 1 n) (sym leap_cost)
         (⊎_elim
         (λ l.
-        let g = leap_there w y.to (step s) (aim s i) (x.table l) y.at.over y.at.halved y.target leader (entries (aim s i) l) l lp.pc y.at.reads in
+        let g = look_there w y.to (step s) (aim s i) 30 (x.table l) y.at.over y.at.halved leader (entries (aim s i) l) l lp.pc y.target y.sign y.at.reads in
         record {
           steps = y.steps + g.steps;
           to = g.to;
           at_least = omega (arith, y.some);
           within = omega (arith, y.within, g.within);
           walk = walk_on (Quiet w) u y.to g.to y.steps g.steps y.walk g.walk;
-          is = lands g.is.0 (g.is.1 ∙ y.sign ∙ ap (λ q. (q + k) % 2 ^ 64) (sym lp.pc), g.is.2 ∙ y.keeps) lp.sourced;
+          is = lands g.is.0 (g.is.1 ∙ y.sign ∙ sym lp.pc, g.is.2 ∙ y.keeps) lp.sourced;
         })
         (λ lacks. record {
           steps = y.steps;

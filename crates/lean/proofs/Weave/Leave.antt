@@ -4,37 +4,37 @@ use Rattle.std.specs.Prelude.{◌==◌, max, pos}
 use Rattle.std.proofs.lemmas.Bool.{ne_eqb}
 use Rattle.std.proofs.Math.Nat.{le-max_left, le-max_right}
 use Rattle.rv_isa.specs.declared.class.Class.TheVariants as class
-use Rattle.machine.specs.Table.{ins, Ins, Beq, Jal}
+use Rattle.machine.specs.Table.{ins, Ins, Kind, Beq, Jal}
 use Rattle.qed_model.specs.Promise.Kept.{NotTrapped}
 use Rattle.machine.specs.Offsets.{distance_between}
 use Rattle.qed_model.specs.Weave.Placed.{sum_of_sizes}
 use Rattle.qed_model.proofs.Lemmas.{size-append}
-use Rattle.qed_model.specs.Weave.Sequences.{Reads, fired_check, guard, guards_of, links, LAST_ORIGINAL, PAIR_DISTANCE, CURSOR, SIGNATURE, pair}
-use Rattle.qed_model.specs.Weave.Lean.{turn, goes, opposite, leave_as, cost, leave_cost_as}
+use Rattle.qed_model.specs.Weave.Sequences.{Reads, fired_check, guard, links, LAST_ORIGINAL, PAIR_DISTANCE, CURSOR, SIGNATURE, pair}
+use Rattle.qed_model.specs.Weave.Lean.{turn, goes, opposite, check_way, taken, leave_as, cost, leave_cost_as}
 use Rattle.qed_model.specs.Weave.LeanCode.{fall_to}
 use Rattle.machine.proofs.Lemmas.{Over, over_moved, Walk, walk_on}
 use Rattle.weave_core.specs.World.{World, Quiet, Twice, Item, Mark, Plain, Constant, Go, State, reg, moved, next_pc, Known, step, target, class_of, set_reg, holds, wrapped}
 use Rattle.weave_core.specs.Blocks.{IsEntryOf, Goes}
 use Rattle.weave_core.specs.Rows.{At, Led, Sourced}
 use Rattle.weave_core.specs.WeaveLaws.{GoesTo, Onward, lands, is_lost}
-use Rattle.weave_core.proofs.Lemmas.{Passes, pass_none, pass_on, guard_pass, own_pair, Branches, branch_step, branch_to, go_most, go_walk, halved_gone, jump_step, links_as, branch_taken, branch_passed, halved_regs, halved_views, halved_moved, led_none, led_more}
+use Rattle.weave_core.proofs.Lemmas.{Passes, pass_none, guard_pass, pair_value, Branches, branch_step, branch_to, go_most, go_walk, halved_gone, jump_step, links_as, branch_taken, branch_passed, halved_regs, halved_views, halved_moved, led_none, led_more}
 use Rattle.lean.proofs.Weave.Chain.{cost_append}
 use Rattle.lean.proofs.Weave.Ways.{opposite_is, reads_behind}
 use Rattle.lean.proofs.Weave.Turn.{Signed, turned, turn_any, turn_row}
 
--- x16 has the signature of an address with an offset, and x15 is as in u
-abbrev pub SignedAs : State → ℕ → State → ℕ → Type 0
-SignedAs u k y p = (reg y SIGNATURE ≡ (p + k) % 2 ^ 64) × (reg y CURSOR ≡ reg u CURSOR)
+-- x16 has an address, and x15 is as in u
+abbrev pub SignedAs : State → State → ℕ → Type 0
+SignedAs u y p = (reg y SIGNATURE ≡ p) × (reg y CURSOR ≡ reg u CURSOR)
 
 -- in `least` to `most` steps to an entry with its signature, or to where the input goes no further
-abbrev pub Went : World → (ℕ → Bool) → State → State → ℕ → ℕ → ℕ → Type 0
-Went w leader u t least most k = GoesTo w u least most (λ n x. Onward w leader (SignedAs u k) t x)
+abbrev pub Went : World → (ℕ → Bool) → State → State → ℕ → ℕ → Type 0
+Went w leader u t least most = GoesTo w u least most (λ n x. Onward w leader (SignedAs u) t x)
 
 -- behind a walk that keeps the counter
 pub went_behind :
-    (w : World) (leader : ℕ → Bool) (u x t : State) (m b least most k : ℕ) → Walk (Quiet w) u m x → reg x CURSOR ≡ reg u CURSOR → m ≤ b → Went w leader x t least most k
-    → Went w leader u t (m + least) (b + most) k
-went_behind w leader u x t m b least most k a keeps le g = record {
+    (w : World) (leader : ℕ → Bool) (u x t : State) (m b least most : ℕ) → Walk (Quiet w) u m x → reg x CURSOR ≡ reg u CURSOR → m ≤ b → Went w leader x t least most
+    → Went w leader u t (m + least) (b + most)
+went_behind w leader u x t m b least most a keeps le g = record {
   steps = m + g.steps;
   to = g.to;
   at_least = omega (arith, g.at_least);
@@ -42,20 +42,11 @@ went_behind w leader u x t m b least most k a keeps le g = record {
   walk = walk_on (Quiet w) u x g.to m g.steps a g.walk;
   is = from g.is;
 } where
-  from : Onward w leader (SignedAs x k) t g.to → Onward w leader (SignedAs u k) t g.to
+  from : Onward w leader (SignedAs x) t g.to → Onward w leader (SignedAs u) t g.to
   from (lands st s so) = lands st (s.0, s.1 ∙ keeps) so
   from (is_lost going h so lacks) = is_lost going h so lacks
 
 -- ---- sums
-more_one : (m c : ℕ) → m ≤ c → m + 1 ≤ c + 1
-more_one m c h = omega (arith, h)
-
-some_on : (m l n : ℕ) → m + 1 + l ≤ n → 1 ≤ n
-some_on m l n h = omega (arith, h)
-
-within : (c x m n : ℕ) → n ≤ c + 1 + x → x ≤ m → n ≤ c + (1 + m)
-within c x m n h le = omega (arith, h, le)
-
 pub far_enough : (p size : ℕ) → p + 4 + size + 4 ≤ 2 ^ 63 → (p + wrapped (pos (4 + size))) % 2 ^ 64 ≡ p + 4 + size
 far_enough p size h = omega (arith, h)
 
@@ -66,18 +57,18 @@ module _ (w : World) (leader : ℕ → Bool) (entries : (a : ℕ) → leader a �
       halved_regs w u t t s.regs s.sets.pc s.long (λ q l. s.same q (λ e. absurd (omega arith)) (λ e. absurd (omega arith))) (λ q one l. s.same (q + PAIR_DISTANCE) (λ e. absurd (omega arith)) (λ e. absurd (omega arith))) h
 
   -- what is asked of a turn from a block to an address: the input stands there, which is a leader or no code
-  pub record Turning (u t : State) (a p k : ℕ) (rest : List Item) : Type 0 where
+  pub record Turning (u t : State) (a p : ℕ) (rest : List Item) : Type 0 where
     pub at : At w u (turn a p ++ rest) t t
     pub low : a < 2 ^ 64
     pub sourced : Sourced w t
     pub here : t.pc ≡ p
-    pub sign : reg u SIGNATURE ≡ (a + k) % 2 ^ 64
+    pub sign : reg u SIGNATURE ≡ a
     pub leads : leader a ≡ true
 
   -- where no code stands the turn has a step, since the block has some
   lost_row :
-      (u t : State) (a p k : ℕ) (rest : List Item) → Turning u t a p k rest → ((i : Ins) → w.source p ≡ Known i → ⊥) → Went w leader u t 1 (cost (turn a p)) k
-  lost_row u t a p k rest x lacks =
+      (u t : State) (a p : ℕ) (rest : List Item) → Turning u t a p rest → ((i : Ins) → w.source p ≡ Known i → ⊥) → Went w leader u t 1 (cost (turn a p))
+  lost_row u t a p rest x lacks =
       let s = turn_any w u rest x.at.over x.at.halved.output.regs a p x.at.reads in
       let other : (a == p) ≡ false = ne_eqb a p (λ e. let c = codes a x.leads in lacks c.0 (ap w.source (sym e) ∙ c.1)) in
       let some : cond {A = ℕ} (a == p) 0 1 ≡ 1 = ap (λ b. cond {A = ℕ} b 0 1) other in
@@ -92,11 +83,11 @@ module _ (w : World) (leader : ℕ → Bool) (entries : (a : ℕ) → leader a �
 
   -- to a leader, by a jump
   reach_row :
-      (near : w.form.far ≡ false) (u t : State) (a p k : ℕ) (rest : List Item) → Turning u t a p k (Go p ∷ rest) → leader p ≡ true → Went w leader u t 1 (cost (turn a p) + 1) k
-  reach_row near u t a p k rest x l =
-      let s = turn_row w u (Go p ∷ rest) x.at.over x.at.halved.output.regs a p k x.low (entries p l).low x.sign x.at.reads in
+      (near : w.form.far ≡ false) (u t : State) (a p : ℕ) (rest : List Item) → Turning u t a p (Go p ∷ rest) → leader p ≡ true → Went w leader u t 1 (cost (turn a p) + 1)
+  reach_row near u t a p rest x l =
+      let s = turn_row w u (Go p ∷ rest) x.at.over x.at.halved.output.regs a p x.low (entries p l).low x.sign x.at.reads in
       let y = moved s.regs s.sets.pc u in
-      let hy = halved_signed u t (Go p ∷ rest) (cond (a == p) 0 1) (cost (turn a p)) ((p + k) % 2 ^ 64) s x.at.halved in
+      let hy = halved_signed u t (Go p ∷ rest) (cond (a == p) 0 1) (cost (turn a p)) p s x.at.halved in
       let e = entries p l in
       let g = go_walk w y p rest (over_moved w.code u s.regs s.sets.pc x.at.over) s.sets.reads s.long e.entry_low e.grain in
       let one : go_most w.form.far ≡ 1 = ap go_most near in
@@ -107,26 +98,26 @@ module _ (w : World) (leader : ℕ → Bool) (entries : (a : ℕ) → leader a �
         within = omega (arith, s.within, g.within, one);
         walk = walk_on (Quiet w) u y _ s.steps g.steps s.sets.walk g.walk;
         is = lands (record { over = over_moved w.code u g.regs (w.entry p) x.at.over; halved = halved_gone w y t t p (go_most w.form.far) g hy; pc = ap w.entry (sym x.here); leads = ap leader x.here ∙ l })
-            (g.same 16 (λ e. absurd (omega arith)) ∙ s.sign ∙ ap (λ q. (q + k) % 2 ^ 64) (sym x.here), g.same 15 (λ e. absurd (omega arith)) ∙ s.same 15 (λ e. absurd (omega arith)) (λ e. absurd (omega arith))) x.sourced;
+            (g.same 16 (λ e. absurd (omega arith)) ∙ s.sign ∙ sym x.here, g.same 15 (λ e. absurd (omega arith)) ∙ s.same 15 (λ e. absurd (omega arith)) (λ e. absurd (omega arith))) x.sourced;
       }
 
   -- a jump to a leader, or to no code
   pub goes_row :
-      (near : w.form.far ≡ false) (u t : State) (a p k : ℕ) (rest : List Item) → Turning u t a p k (Go p ∷ rest) → Goes w leader p → Went w leader u t 1 (cost (goes a p)) k
-  goes_row near u t a p k rest x g =
+      (near : w.form.far ≡ false) (u t : State) (a p : ℕ) (rest : List Item) → Turning u t a p (Go p ∷ rest) → Goes w leader p → Went w leader u t 1 (cost (goes a p))
+  goes_row near u t a p rest x g =
       let sum : cost (goes a p) ≡ cost (turn a p) + 1 = cost_append (turn a p) (Go p ∷ []) in
       ⊎_elim
-      (λ l. subst (λ n. Went w leader u t 1 n k) (sym sum) (reach_row near u t a p k rest x l))
-      (λ lacks. let y = lost_row u t a p k (Go p ∷ rest) x lacks in record { steps = y.steps; to = y.to; at_least = y.at_least; within = omega (arith, y.within, sum); walk = y.walk; is = y.is })
+      (λ l. subst (λ n. Went w leader u t 1 n) (sym sum) (reach_row near u t a p rest x l))
+      (λ lacks. let y = lost_row u t a p (Go p ∷ rest) x lacks in record { steps = y.steps; to = y.to; at_least = y.at_least; within = omega (arith, y.within, sum); walk = y.walk; is = y.is })
       g
 
   -- a fall to the entry behind, or to no code
-  pub falls_row : (u t : State) (a p k : ℕ) → Turning u t a p k (fall_to leader p) → Goes w leader p → Went w leader u t 0 (cost (turn a p ++ fall_to leader p)) k
-  falls_row u t a p k x g =
+  pub falls_row : (u t : State) (a p : ℕ) → Turning u t a p (fall_to leader p) → Goes w leader p → Went w leader u t 0 (cost (turn a p ++ fall_to leader p))
+  falls_row u t a p x g =
       let sum = cost_append (turn a p) (fall_to leader p) in
       ⊎_elim
       (λ l.
-      let s = turn_row w u (fall_to leader p) x.at.over x.at.halved.output.regs a p k x.low (entries p l).low x.sign x.at.reads in
+      let s = turn_row w u (fall_to leader p) x.at.over x.at.halved.output.regs a p x.low (entries p l).low x.sign x.at.reads in
       let marked : Reads w.form.far w.code w.entry s.sets.pc (Mark p ∷ []) = subst (λ b. Reads w.form.far w.code w.entry s.sets.pc (cond b (Mark p ∷ []) (Go p ∷ []))) l s.sets.reads in
       record {
         steps = s.steps;
@@ -136,12 +127,12 @@ module _ (w : World) (leader : ℕ → Bool) (entries : (a : ℕ) → leader a �
         walk = s.sets.walk;
         is = lands (record {
           over = over_moved w.code u s.regs s.sets.pc x.at.over;
-          halved = halved_signed u t (fall_to leader p) (cond (a == p) 0 1) (cost (turn a p)) ((p + k) % 2 ^ 64) s x.at.halved;
+          halved = halved_signed u t (fall_to leader p) (cond (a == p) 0 1) (cost (turn a p)) p s x.at.halved;
           pc = sym marked.0 ∙ ap w.entry (sym x.here);
           leads = ap leader x.here ∙ l;
-        }) (s.sign ∙ ap (λ q. (q + k) % 2 ^ 64) (sym x.here), s.same 15 (λ e. absurd (omega arith)) (λ e. absurd (omega arith))) x.sourced;
+        }) (s.sign ∙ sym x.here, s.same 15 (λ e. absurd (omega arith)) (λ e. absurd (omega arith))) x.sourced;
       })
-      (λ lacks. let y = lost_row u t a p k (fall_to leader p) x lacks in record { steps = y.steps; to = y.to; at_least = omega arith; within = omega (arith, y.within, sum); walk = y.walk; is = y.is })
+      (λ lacks. let y = lost_row u t a p (fall_to leader p) x lacks in record { steps = y.steps; to = y.to; at_least = omega arith; within = omega (arith, y.within, sum); walk = y.walk; is = y.is })
       g
 
 -- ---- guards and return addresses, with their exact steps
@@ -151,19 +142,6 @@ module _ (w : World) where
     by : (b : Bool) → (q == 0) ≡ b → Passes w u (cost (cond b [] (Plain (ins Beq 0 q (q + PAIR_DISTANCE) (pos 8)) ∷ fired_check ∷ []))) rest
     by true e = pass_none w u rest (subst (λ b. Reads w.form.far w.code w.entry u.pc (cond b [] (Plain (ins Beq 0 q (q + PAIR_DISTANCE) (pos 8)) ∷ fired_check ∷ []) ++ rest)) e h)
     by false e = guard_pass w u q rest o h same
-
-  -- of both source registers
-  guards_cost :
-      (u : State) (i : Ins) (rest : List Item) → Over w.code u → Reads w.form.far w.code w.entry u.pc (guards_of i ++ rest) → (1 ≤ i.rs1 → reg u i.rs1 ≡ reg u (i.rs1 + PAIR_DISTANCE))
-      → (1 ≤ i.rs2 → reg u i.rs2 ≡ reg u (i.rs2 + PAIR_DISTANCE)) → Passes w u (cost (guards_of i)) rest
-  guards_cost u i rest o h e1 e2 =
-      let second = cond (i.rs2 == i.rs1) [] (guard i.rs2) in
-      let a : Reads w.form.far w.code w.entry u.pc (guard i.rs1 ++ (second ++ rest)) = subst (λ l. Reads w.form.far w.code w.entry u.pc l) (append_assoc (guard i.rs1) second rest) h in
-      subst (λ n. Passes w u n rest) (sym (cost_append (guard i.rs1) second))
-      (pass_on w u (cost (guard i.rs1)) (cost second) (second ++ rest) rest (guard_cost u i.rs1 (second ++ rest) o a e1) (λ p x. maybe (i.rs2 == i.rs1) p x)) where
-        maybe : (b : Bool) (p : ℕ) → Reads w.form.far w.code w.entry p (cond b [] (guard i.rs2) ++ rest) → Passes w (moved u.regs p u) (cost (cond b [] (guard i.rs2))) rest
-        maybe true p x = pass_none w (moved u.regs p u) rest x
-        maybe false p x = guard_cost (moved u.regs p u) i.rs2 rest (over_moved w.code u u.regs p o) x e2
 
   -- the words of a return address
   abbrev pub linking : ℕ → ℕ → List Item
@@ -186,33 +164,33 @@ module _ (w : World) where
   -- ---- a jump
   module _ (leader : ℕ → Bool) (entries : (a : ℕ) → leader a ≡ true → IsEntryOf w a) (codes : (a : ℕ) → leader a ≡ true → (i : Ins) × (w.source a ≡ Known i)) (near : w.form.far ≡ false) where
     pub jump_leave :
-        (u s : State) (i : Ins) (a k : ℕ) → At w u (leave_as [] (fall_to leader) class.Jump i a s.pc) s s → Sourced w s → w.source s.pc ≡ Known i → class_of i.kind ≡ class.Jump → NotTrapped (step s)
-        → i.rd ≤ LAST_ORIGINAL → Goes w leader (target i s.pc) → a < 2 ^ 64 → leader a ≡ true → reg u SIGNATURE ≡ (a + k) % 2 ^ 64 → Went w leader u (step s) 1 (cost (leave_as [] (fall_to leader) class.Jump i a s.pc)) k
-    jump_leave u s i a k at so h c calm hd g low leads sign =
+        (d : ℕ) (u s : State) (i : Ins) (a : ℕ) → At w u (leave_as d [] (fall_to leader) class.Jump i a s.pc) s s → Sourced w s → w.source s.pc ≡ Known i → class_of i.kind ≡ class.Jump → NotTrapped (step s)
+        → i.rd ≤ LAST_ORIGINAL → Goes w leader (target i s.pc) → a < 2 ^ 64 → leader a ≡ true → reg u SIGNATURE ≡ a → Went w leader u (step s) 1 (cost (leave_as 0 [] (fall_to leader) class.Jump i a s.pc))
+    jump_leave d u s i a at so h c calm hd g low leads sign =
         let j = jump_step w s i so h c calm in
         let t = target i s.pc in
         let r : Led w u 0 (cost (links i s.pc)) (goes a t) (step s) (step s) = subst (λ x. Led w u 0 (cost (links i s.pc)) (goes a t) x x) (sym j.is) (links_led i.rd (next_pc s) (target i s.pc) u s (goes a t) at (omega arith) hd) in
-        let x : Turning w leader entries codes r.to (step s) a t k (Go t ∷ []) = record { at = r.at; low = low; sourced = j.sourced; here = j.pc; sign = r.sign ∙ sign; leads = leads } in
-        let y = went_behind w leader u r.to (step s) r.steps (cost (links i s.pc)) 1 (cost (goes a t)) k r.walk r.cursor r.within (goes_row w leader entries codes near r.to (step s) a t k [] x g) in
+        let x : Turning w leader entries codes r.to (step s) a t (Go t ∷ []) = record { at = r.at; low = low; sourced = j.sourced; here = j.pc; sign = r.sign ∙ sign; leads = leads } in
+        let y = went_behind w leader u r.to (step s) r.steps (cost (links i s.pc)) 1 (cost (goes a t)) r.walk r.cursor r.within (goes_row w leader entries codes near r.to (step s) a t [] x g) in
         let sum = cost_append (links i s.pc) (goes a t) in
         record { steps = y.steps; to = y.to; at_least = omega (arith, y.at_least); within = omega (arith, y.within, sum); walk = y.walk; is = y.is }
 
     -- ---- a branch
-    -- what stands on its ways
-    abbrev ways : Ins → ℕ → ℕ → List Item
-    ways i a at = goes a (target i at) ++ (turn a ((at + 4) % 2 ^ 64) ++ fall_to leader ((at + 4) % 2 ^ 64))
+    -- what stands behind the branch of the output: its way where it is not taken, and the other one
+    abbrev other_way : Ins → ℕ → ℕ → List Item
+    other_way i a at = check_way (opposite i.kind) i ++ (turn a ((at + 4) % 2 ^ 64) ++ fall_to leader ((at + 4) % 2 ^ 64))
 
     -- the branch of the output
     abbrev branched : Ins → ℕ → ℕ → Ins
-    branched i a at = ins (opposite i.kind) 0 i.rs1 i.rs2 (pos (4 + sum_of_sizes false (goes a (target i at))))
+    branched i a at = ins (opposite i.kind) 0 i.rs1 i.rs2 (pos (4 + sum_of_sizes false (taken i a (target i at))))
 
-    -- where its other way begins
+    -- where words behind others begin
     pub record Beyond (p : ℕ) (xs : List Item) (size : ℕ) : Type 0 where
       pub low : p + size + 4 ≤ 2 ^ 63
       pub grain : (p + size) % 4 ≡ 0
       pub reads : Reads w.form.far w.code w.entry (p + size) xs
 
-    pub beyond_goes : (p a t : ℕ) (more : List Item) → Reads w.form.far w.code w.entry p (goes a t ++ more) → Beyond p more (sum_of_sizes false (goes a t))
+    beyond_goes : (p a t : ℕ) (more : List Item) → Reads w.form.far w.code w.entry p (goes a t ++ more) → Beyond p more (sum_of_sizes false (goes a t))
     beyond_goes p a t more r =
         let flat : Reads w.form.far w.code w.entry p (turn a t ++ (Go t ∷ more)) = subst (λ l. Reads w.form.far w.code w.entry p l) (append_assoc (turn a t) (Go t ∷ []) more) r in
         let q = p + sum_of_sizes false (turn a t) in
@@ -222,9 +200,16 @@ module _ (w : World) where
         let sum : q + 4 ≡ p + sum_of_sizes false (goes a t) = let e = size-append false (turn a t) (Go t ∷ []) in omega (arith, e) in
         record { low = omega (arith, low, sum); grain = omega (arith, grain, sum); reads = subst (λ f. Reads f w.code w.entry (p + sum_of_sizes false (goes a t)) more) (sym near) (subst (λ b. Reads false w.code w.entry b more) sum go.1) }
 
+    -- of the way that is taken
+    pub beyond_taken : (i : Ins) (p a t : ℕ) (more : List Item) → Reads w.form.far w.code w.entry p (taken i a t ++ more) → Beyond p more (sum_of_sizes false (taken i a t))
+    beyond_taken i p a t more r =
+        let b = beyond_goes (p + 4 + 4) a t more r.1.1 in
+        let sum : p + 4 + 4 + sum_of_sizes false (goes a t) ≡ p + sum_of_sizes false (taken i a t) = omega arith in
+        record { low = omega (arith, b.low, sum); grain = omega (arith, b.grain, sum); reads = subst (λ q. Reads w.form.far w.code w.entry q more) sum b.reads }
+
     -- what is asked of a branch of the input
-    pub record Branching (u s : State) (i : Ins) (a k : ℕ) : Type 0 where
-      pub at : At w u (leave_as [] (fall_to leader) class.Branch i a s.pc) s s
+    pub record Branching (d : ℕ) (u s : State) (i : Ins) (a : ℕ) : Type 0 where
+      pub at : At w u (leave_as d [] (fall_to leader) class.Branch i a s.pc) s s
       pub sourced : Sourced w s
       pub branch : class_of i.kind ≡ class.Branch
       pub first : i.rs1 ≤ LAST_ORIGINAL
@@ -233,13 +218,13 @@ module _ (w : World) where
       pub on : Goes w leader ((s.pc + 4) % 2 ^ 64)
       pub low : a < 2 ^ 64
       pub leads : leader a ≡ true
-      pub sign : reg u SIGNATURE ≡ (a + k) % 2 ^ 64
+      pub sign : reg u SIGNATURE ≡ a
 
-    -- where one of its ways begins, at `to`
+    -- where one of its ways goes on, at `to`
     turning :
-        (u s : State) (i : Ins) (a k : ℕ) (x : Branching u s i a k) (b : Bool) → Branches w s i b → (to : ℕ) (xs : List Item) → Reads w.form.far w.code w.entry to (turn a (branch_to w b i s) ++ xs)
-        → Turning w leader entries codes (moved u.regs to u) (step s) a (branch_to w b i s) k xs
-    turning u s i a k x b br to xs reads =
+        (d : ℕ) (u s : State) (i : Ins) (a : ℕ) (x : Branching d u s i a) (b : Bool) → Branches w s i b → (to : ℕ) (xs : List Item) → Reads w.form.far w.code w.entry to (turn a (branch_to w b i s) ++ xs)
+        → Turning w leader entries codes (moved u.regs to u) (step s) a (branch_to w b i s) xs
+    turning d u s i a x b br to xs reads =
         let z = moved u.regs to u in
         let t = branch_to w b i s in
         record {
@@ -251,47 +236,57 @@ module _ (w : World) where
           leads = x.leads;
         }
 
-    -- and by that way, which has so many steps
-    by_way :
-        (u s : State) (i : Ins) (a k : ℕ) (g : Passes w u (cost (guards_of i)) (Plain (branched i a s.pc) ∷ ways i a s.pc)) (to : ℕ) → Walk (Quiet w) (moved u.regs g.pc u) 1 (moved u.regs to u)
-        → (least most : ℕ) → Went w leader (moved u.regs to u) (step s) least most k → most ≤ max (cost (goes a (target i s.pc))) (cost (turn a (next_pc s) ++ fall_to leader (next_pc s)))
-        → Went w leader u (step s) 1 (leave_cost_as (fall_to leader) class.Branch i a s.pc) k
-    by_way u s i a k g to one least most way le =
-        let z = moved u.regs to u in
-        let c = cost (guards_of i) in
-        let r = went_behind w leader u z (step s) (g.steps + 1) (c + 1) least most k (walk_on (Quiet w) u (moved u.regs g.pc u) z g.steps 1 g.walk one) refl (more_one g.steps c g.within) way in
-        record { steps = r.steps; to = r.to; at_least = some_on g.steps least r.steps r.at_least; within = within c most _ r.steps r.within le; walk = r.walk; is = r.is }
+    -- a branch that the pairs take too
+    agrees :
+        (u : State) (p : ℕ) (k : Kind) (i : Ins) (rest : List Item) → Over w.code u → class_of k ≡ class.Branch → holds k (reg u (pair i.rs1)) (reg u (pair i.rs2)) ≡ true
+        → Reads w.form.far w.code w.entry p (check_way k i ++ rest) → Walk (Quiet w) (moved u.regs p u) 1 (moved u.regs (p + 4 + 4) u)
+    agrees u p k i rest o c test r =
+        let j = ins k 0 (pair i.rs1) (pair i.rs2) (pos 8) in
+        let near = w.low p j r.0 in
+        let grain = w.grain p j r.0 in
+        branch_taken w (moved u.regs p u) j (p + 4 + 4) (over_moved w.code u u.regs p o) r.0 c test (omega (arith, near)) (omega (arith, grain))
 
-    -- behind the branch of the output, on its way
+    -- behind both branches, by one of the ways
+    by_way :
+        (u s : State) (i : Ins) (a p to : ℕ) → Walk (Quiet w) u 1 (moved u.regs p u) → Walk (Quiet w) (moved u.regs p u) 1 (moved u.regs to u) → (least most : ℕ) → Went w leader (moved u.regs to u) (step s) least most
+        → most ≤ max (cost (goes a (target i s.pc))) (cost (turn a (next_pc s) ++ fall_to leader (next_pc s))) → Went w leader u (step s) 1 (leave_cost_as (fall_to leader) class.Branch i a s.pc)
+    by_way u s i a p to one two least most way le =
+        let z = moved u.regs to u in
+        let r = went_behind w leader u z (step s) 2 2 least most (walk_on (Quiet w) u (moved u.regs p u) z 1 1 one two) refl (omega arith) way in
+        record { steps = r.steps; to = r.to; at_least = omega (arith, r.at_least); within = omega (arith, r.within, le); walk = r.walk; is = r.is }
+
+    -- the branch of the output, and its way
     way_row :
-        (b : Bool) (u s : State) (i : Ins) (a k : ℕ) (x : Branching u s i a k) → Branches w s i b → (g : Passes w u (cost (guards_of i)) (Plain (branched i a s.pc) ∷ ways i a s.pc))
-        → holds (opposite i.kind) (reg u i.rs1) (reg u i.rs2) ≡ not b
-        → Went w leader u (step s) 1 (leave_cost_as (fall_to leader) class.Branch i a s.pc) k
-    way_row true u s i a k x br g test =
+        (b : Bool) (d : ℕ) (u s : State) (i : Ins) (a : ℕ) (x : Branching d u s i a) → Branches w s i b → holds (opposite i.kind) (reg u i.rs1) (reg u i.rs2) ≡ not b
+        → holds i.kind (reg u (pair i.rs1)) (reg u (pair i.rs2)) ≡ b → holds (opposite i.kind) (reg u (pair i.rs1)) (reg u (pair i.rs2)) ≡ not b → Went w leader u (step s) 1 (leave_cost_as (fall_to leader) class.Branch i a s.pc)
+    way_row true d u s i a x br test pairs others =
         let t = target i s.pc in
         let n = next_pc s in
-        let to = g.pc + 4 in
-        let more = turn a n ++ fall_to leader n in
-        let one = branch_passed w (moved u.regs g.pc u) (branched i a s.pc) (over_moved w.code u u.regs g.pc x.at.over) g.reads.0 (opposite_is i.kind x.branch).0 test in
-        let tn = turning u s i a k x true br to (Go t ∷ more) (subst (λ l. Reads w.form.far w.code w.entry to l) (append_assoc (turn a t) (Go t ∷ []) more) g.reads.1) in
-        by_way u s i a k g to one 1 (cost (goes a t)) (goes_row w leader entries codes near (moved u.regs to u) (step s) a t k more tn x.to) (le-max_left (cost (goes a t)) (cost more))
-    way_row false u s i a k x br g test =
+        let p = u.pc + 4 in
+        let to = u.pc + 4 + 4 + 4 in
+        let more = other_way i a s.pc in
+        let one = branch_passed w u (branched i a s.pc) x.at.over x.at.reads.0 (opposite_is i.kind x.branch).0 test in
+        let two = agrees u p i.kind i (goes a t ++ more) x.at.over x.branch pairs x.at.reads.1 in
+        let tn = turning d u s i a x true br to (Go t ∷ more) (subst (λ l. Reads w.form.far w.code w.entry to l) (append_assoc (turn a t) (Go t ∷ []) more) x.at.reads.1.1.1) in
+        by_way u s i a p to one two 1 (cost (goes a t)) (goes_row w leader entries codes near (moved u.regs to u) (step s) a t more tn x.to) (le-max_left (cost (goes a t)) (cost (turn a n ++ fall_to leader n)))
+    way_row false d u s i a x br test pairs others =
         let n = next_pc s in
         let rest = turn a n ++ fall_to leader n in
-        let b = beyond_goes (g.pc + 4) a (target i s.pc) rest g.reads.1 in
-        let size = sum_of_sizes false (goes a (target i s.pc)) in
-        let to = g.pc + 4 + size in
-        let one = branch_taken w (moved u.regs g.pc u) (branched i a s.pc) to (over_moved w.code u u.regs g.pc x.at.over) g.reads.0 (opposite_is i.kind x.branch).0 test (far_enough g.pc size b.low) b.grain in
-        let tn = turning u s i a k x false br to (fall_to leader n) b.reads in
-        by_way u s i a k g to one 0 (cost rest) (falls_row w leader entries codes (moved u.regs to u) (step s) a n k tn x.on) (le-max_right (cost (goes a (target i s.pc))) (cost rest))
+        let b = beyond_taken i (u.pc + 4) a (target i s.pc) (other_way i a s.pc) x.at.reads.1 in
+        let size = sum_of_sizes false (taken i a (target i s.pc)) in
+        let p = u.pc + 4 + size in
+        let to = p + 4 + 4 in
+        let one = branch_taken w u (branched i a s.pc) p x.at.over x.at.reads.0 (opposite_is i.kind x.branch).0 test (far_enough u.pc size b.low) b.grain in
+        let two = agrees u p (opposite i.kind) i rest x.at.over (opposite_is i.kind x.branch).0 others b.reads in
+        let tn = turning d u s i a x false br to (fall_to leader n) b.reads.1.1 in
+        by_way u s i a p to one two 0 (cost rest) (falls_row w leader entries codes (moved u.regs to u) (step s) a n tn x.on) (le-max_right (cost (goes a (target i s.pc))) (cost rest))
 
-    pub branch_leave :
-        (u s : State) (i : Ins) (a k : ℕ) → Branching u s i a k → w.source s.pc ≡ Known i → NotTrapped (step s)
-        → Went w leader u (step s) 1 (leave_cost_as (fall_to leader) class.Branch i a s.pc) k
-    branch_leave u s i a k x h calm =
+    pub branch_leave : (d : ℕ) (u s : State) (i : Ins) (a : ℕ) → Branching d u s i a → w.source s.pc ≡ Known i → NotTrapped (step s) → Went w leader u (step s) 1 (leave_cost_as (fall_to leader) class.Branch i a s.pc)
+    branch_leave d u s i a x h calm =
         let br = branch_step w s i x.sourced h x.branch calm in
         let b = holds i.kind (reg s i.rs1) (reg s i.rs2) in
         let t = x.at.halved in
-        let g = guards_cost u i (Plain (branched i a s.pc) ∷ ways i a s.pc) x.at.over x.at.reads (own_pair w u s i.rs1 t x.first) (own_pair w u s i.rs2 t x.second) in
-        let test : holds (opposite i.kind) (reg u i.rs1) (reg u i.rs2) ≡ not b = (opposite_is i.kind x.branch).1 (reg u i.rs1) (reg u i.rs2) ∙ ap not (ap (λ p. holds i.kind p (reg u i.rs2)) (t.originals i.rs1 x.first) ∙ ap (λ p. holds i.kind (reg s i.rs1) p) (t.originals i.rs2 x.second)) in
-        way_row b u s i a k x br g test
+        let opp = (opposite_is i.kind x.branch).1 in
+        let own : holds i.kind (reg u i.rs1) (reg u i.rs2) ≡ b = ap (λ p. holds i.kind p (reg u i.rs2)) (t.originals i.rs1 x.first) ∙ ap (λ p. holds i.kind (reg s i.rs1) p) (t.originals i.rs2 x.second) in
+        let pairs : holds i.kind (reg u (pair i.rs1)) (reg u (pair i.rs2)) ≡ b = ap (λ p. holds i.kind p (reg u (pair i.rs2))) (pair_value w u s s i.rs1 t x.first) ∙ ap (λ p. holds i.kind (reg s i.rs1) p) (pair_value w u s s i.rs2 t x.second) in
+        way_row b d u s i a x br (opp (reg u i.rs1) (reg u i.rs2) ∙ ap not own) pairs (opp (reg u (pair i.rs1)) (reg u (pair i.rs2)) ∙ ap not pairs)

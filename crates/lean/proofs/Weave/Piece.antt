@@ -1,18 +1,26 @@
--- A piece: its original parts and its mirror parts, with nothing behind.
-use Rattle.std.proofs.Common.{◌≡◌, ℕ, ◌+◌, ◌≤◌, ⊎_elim, Bool, true, false, List, [], ◌++◌, length, refl, sym, ap, ◌∙◌, subst, arith, append_assoc}
+-- A piece: runs of instructions that do not store, of each its original parts and then its mirror parts, and stores in both halves between them.
+use Rattle.std.proofs.Common.{◌≡◌, ℕ, ◌+◌, ◌-◌, ◌*◌, ◌<◌, ◌≤◌, ⊎_elim, Bool, true, false, cond, List, [], ◌∷◌, ◌++◌, length, refl, sym, ap, ◌∙◌, subst, arith, append_assoc, length-append}
+use Rattle.std.proofs.lemmas.Bool.{and_parts, cases_lt, false≢true}
+use Rattle.std.proofs.lemmas.List.{append-nil}
+use Rattle.std.proofs.Math.Nat.{mul-add}
+use Rattle.rv_isa.specs.declared.class.Class.TheVariants as class
 use Rattle.qed_model.specs.Promise.Kept.{NotTrapped}
-use Rattle.qed_model.specs.Weave.Pieces.{is_run}
-use Rattle.qed_model.specs.Weave.Sequences.{guards, original, each_part, CURSOR, SIGNATURE}
+use Rattle.qed_model.specs.Weave.Pieces.{is_run, is_run_after, and_written, is_clean}
+use Rattle.qed_model.specs.Weave.Sequences.{guards, original, each_part, class_of, Class, CURSOR, SIGNATURE}
 use Rattle.qed_model.specs.Weave.Costs.{cost_each, used, original_cost}
-use Rattle.qed_model.specs.Weave.LeanCode.{mirror_steps_of, piece_steps}
+use Rattle.qed_model.specs.Weave.LeanBounds.{cost_of}
+use Rattle.qed_model.specs.Weave.LeanCode.{mirror_steps_of, is_store, store_steps, both_steps, both_parts, store_part, parts_with, piece}
 use Rattle.qed_model.specs.Weave.Forms.{mirror_of}
-use Rattle.machine.proofs.Lemmas.{Walk, walk_on}
+use Rattle.qed_model.proofs.Lemmas.{run_alone, run_prefix}
+use Rattle.machine.proofs.Lemmas.{Walk, walk_none, walk_on, run-more}
 use Rattle.weave_core.specs.World.{World, Quiet as Calm, Item, State, Known, reg, run, step, HasAt, Ins}
 use Rattle.weave_core.specs.Blocks.{FitsPiece, AllFit}
 use Rattle.weave_core.specs.Rows.{At, Sourced, Led}
+use Rattle.weave_core.specs.WeaveLaws.{GoesTo, Holds, Inside}
 use Rattle.weave_core.specs.Parts.{any, bare, NeedsMirror, GivesMirror, LeavesMirror}
 use Rattle.weave_core.specs.Pass.{Views, Quiet, same}
-use Rattle.weave_core.proofs.Lemmas.{mirrored_part, diverse_row, leads_led, quiet_each, each_same, plus, each_plus, quiet_front, never_originals, never_mirrors, for_mirrors, needs_originals, gives_originals, needs_mirrors, gives_mirrors, guarded_original}
+use Rattle.weave_core.proofs.Lemmas.{mirrored_part, diverse_row, led_on, leads_led, quiet_each, each_same, plus, each_plus, quiet_front, front_row, never_originals, never_mirrors, for_mirrors, needs_originals, gives_originals, needs_mirrors, gives_mirrors, guarded_original, has_front, has_rest, not_trapped_le, source_run, none_run, one_run, store_row}
+use Rattle.lean.proofs.Weave.Costs.{run_most, both_most}
 
 -- a mirror part of either kind
 mirror_row :
@@ -28,17 +36,11 @@ quiet_mirror diverse i at f = record {
       (mirror_row diverse w v.now v.original v.shadow i rest f (subst (λ p. At w v.now (mirror_of diverse i p ++ rest) v.original v.shadow) (sym r.here) st) r.sourced r.known r.calm);
 }
 
--- behind some instructions, with x15 and x16 as they were
-pub record Pieced (w : World) (u : State) (least most : ℕ) (rest : List Item) (t : State) : Type 0 where
-  pub steps : ℕ
-  pub to : State
-  pub at_least : least ≤ steps
-  pub within : steps ≤ most
-  pub walk : Walk (Calm w) u steps to
-  pub at : At w to rest t t
-  pub counter : reg to CURSOR ≡ reg u CURSOR
-  pub sign : reg to SIGNATURE ≡ reg u SIGNATURE
+-- the steps of instructions that do not store, in both parts
+abbrev pub run_steps : Bool → List Ins → ℕ
+run_steps diverse is = cost_each original_cost is + cost_each (mirror_steps_of diverse) is
 
+-- ---- a run
 module _ (diverse : Bool) (w : World) (is : List Ins) (s : State) (fit : AllFit is) (clean : is_run is ≡ true) (has : HasAt w.source s.pc is) (so : Sourced w s) (calm : NotTrapped (run s (length is))) where
   -- behind the original parts
   record Half (u : State) (rest : List Item) : Type 0 where
@@ -66,7 +68,7 @@ module _ (diverse : Bool) (w : World) (is : List Ins) (s : State) (fit : AllFit 
       (λ e. absurd (never_originals plus is s.pc w v g.to g.steps e))
       g.ends
 
-  mirrors_row : (u : State) (rest : List Item) → Half u (each_part (mirror_of diverse) is s.pc ++ rest) → Pieced w u (length is) (piece_steps diverse is) rest (run s (length is))
+  mirrors_row : (u : State) (rest : List Item) → Half u (each_part (mirror_of diverse) is s.pc ++ rest) → Led w u (length is) (run_steps diverse is) rest (run s (length is)) (run s (length is))
   mirrors_row u rest h =
       let v = h.to in
       let st = subst (λ l. At w v.now (l ++ rest) v.original v.shadow) (sym (each_plus (mirror_of diverse) is s.pc)) h.at in
@@ -85,14 +87,185 @@ module _ (diverse : Bool) (w : World) (is : List Ins) (s : State) (fit : AllFit 
         within = omega (arith, h.within, g.within);
         walk = walk_on (Calm w) u v.now g.to.now h.steps g.steps h.walk g.walk;
         at = subst (λ y. At w g.to.now rest (run s (length is)) y) same_shadow (subst (λ y. At w g.to.now rest y g.to.shadow) same_original e.0);
-        counter = m.cursor ∙ h.counter;
+        cursor = m.cursor ∙ h.counter;
         sign = m.sign ∙ h.sign;
       })
       (λ e. absurd (never_mirrors plus (mirror_steps_of diverse) is s.pc w v g.to g.steps e))
       g.ends
 
-  -- through the piece
-  pub piece_row : (u : State) (rest : List Item) → At w u ((each_part original is s.pc ++ each_part (mirror_of diverse) is s.pc) ++ rest) s s → Pieced w u (length is) (piece_steps diverse is) rest (run s (length is))
-  piece_row u rest a =
+  -- through all of it
+  run_row : (u : State) (rest : List Item) → At w u (both_parts diverse is s.pc ++ rest) s s → Led w u (length is) (run_steps diverse is) rest (run s (length is)) (run s (length is))
+  run_row u rest a =
       let b = subst (λ l. At w u l s s) (append_assoc (each_part original is s.pc) (each_part (mirror_of diverse) is s.pc) rest) a in
       mirrors_row u rest (originals_row u (each_part (mirror_of diverse) is s.pc ++ rest) b)
+
+-- ---- the input before some instructions
+-- they stand where it is, and it makes n steps
+pub record Ready (w : World) (s : State) (is : List Ins) (n : ℕ) : Type 0 where
+  pub fit : AllFit is
+  pub clean : is_run is ≡ true
+  pub has : HasAt w.source s.pc is
+  pub sourced : Sourced w s
+  pub calm : NotTrapped (run s n)
+
+fit_parts : (xs ys : List Ins) → AllFit (xs ++ ys) → AllFit xs × AllFit ys
+fit_parts [] ys f = (tt, f)
+fit_parts (x ∷ xs) ys f = let p = fit_parts xs ys f.1 in ((f.0, p.0), p.1)
+
+-- behind the first of a run
+run_rest : (ws : ℕ → Bool) (xs ys : List Ins) → is_run_after ws (xs ++ ys) ≡ true → is_run ys ≡ true
+run_rest ws [] ys e = run_alone ws ys e
+run_rest ws (x ∷ xs) ys e = run_rest (and_written x ws) xs ys (and_parts (is_clean ws x) (is_run_after (and_written x ws) (xs ++ ys)) e).1
+
+module _ (w : World) where
+  -- the first of them
+  ready_front : (s : State) (xs ys : List Ins) (n m : ℕ) → m ≤ n → Ready w s (xs ++ ys) n → Ready w s xs m
+  ready_front s xs ys n m l r = record { fit = (fit_parts xs ys r.fit).0; clean = run_prefix (λ q. false) xs ys r.clean; has = has_front w.source s.pc xs ys r.has; sourced = r.sourced; calm = not_trapped_le s m n l r.calm }
+
+  -- behind them
+  record Behind (s : State) (xs ys : List Ins) (n : ℕ) : Type 0 where
+    ready : Ready w (run s (length xs)) ys n
+    pc : (run s (length xs)).pc ≡ s.pc + 4 * length xs
+
+  ready_rest : (s : State) (xs ys : List Ins) (n : ℕ) → Ready w s (xs ++ ys) (length xs + n) → Behind s xs ys n
+  ready_rest s xs ys n r =
+      let f = fit_parts xs ys r.fit in
+      let p = source_run w xs (length xs) s (omega arith) f.0 r.sourced (has_front w.source s.pc xs ys r.has) (not_trapped_le s (length xs) (length xs + n) (omega arith) r.calm) in
+      record {
+        ready = record { fit = f.1; clean = run_rest (λ q. false) xs ys r.clean; has = subst (λ a. HasAt w.source a ys) (sym p.pc) (has_rest w.source s.pc xs ys r.has); sourced = p.sourced; calm = subst NotTrapped (run-more s (length xs) n) r.calm };
+        pc = p.pc;
+      }
+
+-- ---- steps
+cost_append : (f : Ins → ℕ) (xs ys : List Ins) → cost_each f (xs ++ ys) ≡ cost_each f xs + cost_each f ys
+cost_append f [] ys = omega arith
+cost_append f (x ∷ xs) ys = let e = cost_append f xs ys in omega (arith, e)
+
+-- a run and one more
+run_push : (diverse : Bool) (xs : List Ins) (i : Ins) → run_steps diverse (xs ++ i ∷ []) ≡ run_steps diverse xs + (original_cost i + mirror_steps_of diverse i)
+run_push diverse xs i = let a = cost_append original_cost xs (i ∷ []) in let b = cost_append (mirror_steps_of diverse) xs (i ∷ []) in omega (arith, a, b)
+
+pub store_class : (c : Class) → is_store c ≡ true → c ≡ class.Store
+store_class class.Store e = refl
+store_class c e = absurd (false≢true e)
+
+-- ---- parts
+-- items lead through instructions, in at most `most` steps; within them the original half makes each step
+pub record Part (diverse : Bool) (w : World) (items : ℕ → List Item) (is : List Ins) (most : ℕ) : Type 0 where
+  pub few : most ≤ cost_of diverse * length is
+  pub row : (u s : State) (rest : List Item) → Ready w s is (length is) → At w u (items s.pc ++ rest) s s → Led w u (length is) most rest (run s (length is)) (run s (length is))
+  pub inside : (n : ℕ) (u s : State) (rest : List Item) → n < length is → Ready w s is n → At w u (items s.pc ++ rest) s s → GoesTo w u n (cost_of diverse * length is) (λ k x. Inside w s n x)
+
+module _ (diverse : Bool) (w : World) where
+  -- one behind the other
+  then_part : (xs ys : ℕ → List Item) (is js : List Ins) (c d : ℕ) → Part diverse w xs is c → Part diverse w ys js d → Part diverse w (λ at. xs at ++ ys (at + 4 * length is)) (is ++ js) (c + d)
+  then_part xs ys is js c d p q = record { few = omega (arith, p.few, q.few, product); row = row; inside = inside } where
+    count : length (is ++ js) ≡ length is + length js
+    count = length-append is js
+
+    product : cost_of diverse * length (is ++ js) ≡ cost_of diverse * length is + cost_of diverse * length js
+    product = ap (λ n. cost_of diverse * n) count ∙ mul-add (cost_of diverse) (length is) (length js)
+
+    -- the first of them, before the second
+    first : (u s : State) (rest : List Item) → Ready w s is (length is) → At w u ((xs s.pc ++ ys (s.pc + 4 * length is)) ++ rest) s s → Led w u (length is) c (ys (s.pc + 4 * length is) ++ rest) (run s (length is)) (run s (length is))
+    first u s rest r a = p.row u s (ys (s.pc + 4 * length is) ++ rest) r (subst (λ l. At w u l s s) (append_assoc (xs s.pc) (ys (s.pc + 4 * length is)) rest) a)
+
+    row : (u s : State) (rest : List Item) → Ready w s (is ++ js) (length (is ++ js)) → At w u ((xs s.pc ++ ys (s.pc + 4 * length is)) ++ rest) s s → Led w u (length (is ++ js)) (c + d) rest (run s (length (is ++ js))) (run s (length (is ++ js)))
+    row u s rest r a =
+        let m = length js in
+        let t = run s (length is) in
+        let b = ready_rest w s is js m (subst (Ready w s (is ++ js)) count r) in
+        let f = first u s rest (ready_front w s is js (length (is ++ js)) (length is) (omega (arith, count)) r) a in
+        let l = led_on w u (length is) c m d (ys (s.pc + 4 * length is) ++ rest) rest t t (run t m) (run t m) f (λ x h. q.row x t rest b.ready (subst (λ n. At w x (ys n ++ rest) t t) (sym b.pc) h)) in
+        let same : run t m ≡ run s (length (is ++ js)) = sym (run-more s (length is) m) ∙ ap (run s) (sym count) in
+        subst (λ n. Led w u n (c + d) rest (run s (length (is ++ js))) (run s (length (is ++ js)))) (sym count) (subst (λ y. Led w u (length is + m) (c + d) rest y y) same l)
+
+    inside : (n : ℕ) (u s : State) (rest : List Item) → n < length (is ++ js) → Ready w s (is ++ js) n → At w u ((xs s.pc ++ ys (s.pc + 4 * length is)) ++ rest) s s → GoesTo w u n (cost_of diverse * length (is ++ js)) (λ k x. Inside w s n x)
+    inside n u s rest lt r a =
+        ⊎_elim
+        (λ l.
+        let g = p.inside n u s (ys (s.pc + 4 * length is) ++ rest) l (ready_front w s is js n n (omega arith) r) (subst (λ l. At w u l s s) (append_assoc (xs s.pc) (ys (s.pc + 4 * length is)) rest) a) in
+        record { steps = g.steps; to = g.to; at_least = g.at_least; within = omega (arith, g.within, product); walk = g.walk; is = g.is })
+        (λ ge. behind (n - length is) (omega (arith, ge)))
+        (cases_lt n (length is)) where
+          behind : (m : ℕ) → n ≡ length is + m → GoesTo w u n (cost_of diverse * length (is ++ js)) (λ k x. Inside w s n x)
+          behind m z =
+              let t = run s (length is) in
+              let b = ready_rest w s is js m (subst (Ready w s (is ++ js)) z r) in
+              let f = first u s rest (ready_front w s is js n (length is) (omega (arith, z)) r) a in
+              let g = q.inside m f.to t rest (omega (arith, z, lt, count)) b.ready (subst (λ n. At w f.to (ys n ++ rest) t t) (sym b.pc) f.at) in
+              let same : run t m ≡ run s n = sym (run-more s (length is) m) ∙ ap (run s) (sym z) in
+              record {
+                steps = f.steps + g.steps;
+                to = g.to;
+                at_least = omega (arith, f.at_least, g.at_least, z);
+                within = omega (arith, f.within, g.within, p.few, product);
+                walk = walk_on (Calm w) u f.to g.to f.steps g.steps f.walk g.walk;
+                is = record { going = g.is.going; holds = subst (λ y. Holds w g.to y) same g.is.holds };
+              }
+
+  -- a run
+  run_part : (is : List Ins) → Part diverse w (both_parts diverse is) is (run_steps diverse is)
+  run_part is = record { few = run_most diverse is; row = λ u s rest r a. run_row diverse w is s r.fit r.clean r.has r.sourced r.calm u rest a; inside = inside } where
+    three : (b : Bool) (n m : ℕ) → n < m → 3 * n ≤ cost_of b * m
+    three true n m h = omega (arith, h)
+    three false n m h = omega (arith, h)
+
+    inside : (n : ℕ) (u s : State) (rest : List Item) → n < length is → Ready w s is n → At w u (both_parts diverse is s.pc ++ rest) s s → GoesTo w u n (cost_of diverse * length is) (λ k x. Inside w s n x)
+    inside n u s rest lt r a =
+        let mirrors = each_part (mirror_of diverse) is s.pc in
+        let g = front_row w is n u s (mirrors ++ rest) lt r.fit r.clean r.has (subst (λ l. At w u l s s) (append_assoc (each_part original is s.pc) mirrors rest) a) r.sourced r.calm in
+        let few = three diverse n (length is) lt in
+        record { steps = g.steps; to = g.to; at_least = g.at_least; within = omega (arith, g.within, few); walk = g.walk; is = g.is }
+
+  -- a store
+  store_part_of : (i : Ins) → is_store (class_of i.kind) ≡ true → Part diverse w (λ at. store_part i) (i ∷ []) (store_steps i)
+  store_part_of i e = record { few = few; row = row; inside = inside } where
+    few : store_steps i ≤ cost_of diverse * 1
+    few = let h = subst (λ b. cond b (store_steps i) (original_cost i + mirror_steps_of diverse i) ≤ cost_of diverse) e (both_most diverse i) in omega (arith, h)
+
+    row : (u s : State) (rest : List Item) → Ready w s (i ∷ []) 1 → At w u (store_part i ++ rest) s s → Led w u 1 (store_steps i) rest (run s 1) (run s 1)
+    row u s rest r a = subst (λ y. Led w u 1 (store_steps i) rest y y) (sym (one_run s)) (store_row w u s i rest r.fit.0 (store_class (class_of i.kind) e) a r.sourced r.has.0 (subst NotTrapped (one_run s) r.calm))
+
+    inside : (n : ℕ) (u s : State) (rest : List Item) → n < 1 → Ready w s (i ∷ []) n → At w u (store_part i ++ rest) s s → GoesTo w u n (cost_of diverse * 1) (λ k x. Inside w s n x)
+    inside n u s rest lt r a =
+        let z : n ≡ 0 = omega (arith, lt) in
+        let same : s ≡ run s n = sym (ap (run s) z ∙ none_run s) in
+        let t = a.halved in
+        record { steps = 0; to = u; at_least = omega (arith, z); within = omega arith; walk = walk_none (Calm w) u; is = record { going = a.over.going; holds = subst (λ y. Holds w u y) same (record { output = t.output; originals = t.originals; bytes = t.bytes }) } }
+
+  -- ---- a piece
+  -- with a run that is begun
+  abbrev Begun : List Ins → Type 0
+  Begun is = (run_of : List Ins) → Part diverse w (λ at. parts_with diverse run_of at is) (run_of ++ is) (run_steps diverse run_of + cost_each (both_steps diverse) is)
+
+  begun_none : Begun []
+  begun_none run_of = subst (λ l. Part diverse w (both_parts diverse run_of) l (run_steps diverse run_of + 0)) (sym (append-nil run_of)) (subst (Part diverse w (both_parts diverse run_of) run_of) (zero_on (run_steps diverse run_of)) (run_part run_of)) where
+    zero_on : (n : ℕ) → n ≡ n + 0
+    zero_on n = omega arith
+
+  begun_on : (i : Ins) (is : List Ins) → Begun is → Begun (i ∷ is)
+  begun_on i is more run_of = by (is_store (class_of i.kind)) refl where
+    zero_off : (n : ℕ) → 0 + n ≡ n
+    zero_off n = omega arith
+
+    by :
+        (b : Bool) → is_store (class_of i.kind) ≡ b
+        → Part diverse w (λ at. cond b (both_parts diverse run_of at ++ (store_part i ++ parts_with diverse [] (at + 4 * length run_of + 4) is)) (parts_with diverse (run_of ++ i ∷ []) at is)) (run_of ++ i ∷ is) (run_steps diverse run_of + (cond b (store_steps i) (original_cost i + mirror_steps_of diverse i) + cost_each (both_steps diverse) is))
+    by true e =
+        let rest = then_part (λ at. store_part i) (λ at. parts_with diverse [] at is) (i ∷ []) is (store_steps i) (0 + cost_each (both_steps diverse) is) (store_part_of i e) (more []) in
+        subst (λ n. Part diverse w (λ at. both_parts diverse run_of at ++ (store_part i ++ parts_with diverse [] (at + 4 * length run_of + 4) is)) (run_of ++ i ∷ is) (run_steps diverse run_of + (store_steps i + n))) (zero_off (cost_each (both_steps diverse) is))
+        (then_part (both_parts diverse run_of) (λ at. store_part i ++ parts_with diverse [] (at + 4) is) run_of (i ∷ is) (run_steps diverse run_of) (store_steps i + (0 + cost_each (both_steps diverse) is)) (run_part run_of) rest)
+    by false e =
+        let sum : run_steps diverse (run_of ++ i ∷ []) + cost_each (both_steps diverse) is ≡ run_steps diverse run_of + (original_cost i + mirror_steps_of diverse i + cost_each (both_steps diverse) is) = let push = run_push diverse run_of i in omega (arith, push) in
+        subst (Part diverse w (λ at. parts_with diverse (run_of ++ i ∷ []) at is) (run_of ++ i ∷ is)) sum
+        (subst (λ l. Part diverse w (λ at. parts_with diverse (run_of ++ i ∷ []) at is) l (run_steps diverse (run_of ++ i ∷ []) + cost_each (both_steps diverse) is)) (append_assoc run_of (i ∷ []) is) (more (run_of ++ i ∷ [])))
+
+  begun : (is : List Ins) → Begun is
+  begun [] = begun_none
+  begun (i ∷ is) = begun_on i is (begun is)
+
+  pub piece_part : (is : List Ins) → Part diverse w (piece diverse is) is (cost_each (both_steps diverse) is)
+  piece_part is = subst (Part diverse w (piece diverse is) is) (zero_off (cost_each (both_steps diverse) is)) (begun is []) where
+    zero_off : (n : ℕ) → 0 + n ≡ n
+    zero_off n = omega arith

@@ -10,8 +10,8 @@ use Rattle.qed_model.specs.Promise.Closed.{is_branch}
 use Rattle.qed_model.specs.Weave.Blocks.{begins_at}
 use Rattle.qed_model.specs.Weave.Code.{Sequences, pieces_of, body_of, block_items, entries_of}
 use Rattle.qed_model.specs.Weave.Placed.{sum_of_sizes}
-use Rattle.qed_model.specs.Weave.Sequences.{Reads, End, Falls, Stops, Block, body_length, before_end, guards_of}
-use Rattle.qed_model.specs.Weave.Lean.{turn, goes, opposite, leave, leave_as}
+use Rattle.qed_model.specs.Weave.Sequences.{Reads, End, Falls, Stops, Block, body_length, before_end}
+use Rattle.qed_model.specs.Weave.Lean.{turn, opposite, check_way, taken, leave, leave_as}
 use Rattle.qed_model.specs.Weave.LeanCode.{Lean, worded, fall_to, fall_words}
 use Rattle.weave_core.specs.World.{World, Item, Mark, Plain, Go, Fetched, target, Class, class_of}
 use Rattle.weave_core.specs.WeaveLaws.{BlockOf, EntryAt}
@@ -26,7 +26,7 @@ record Marked (rest : List Item) (t : ℕ) : Type 0 where
   more : List Item
   is : rest ≡ Mark t ∷ more
 
-module _ (c : ℕ → Fetched) (en : ℕ → ℕ) (leader : ℕ → Bool) (before : List Item) where
+module _ (c : ℕ → Fetched) (en : ℕ → ℕ) (leader : ℕ → Bool) (d : ℕ) (before : List Item) where
   abbrev R : ℕ → List Item → Type 0
   R p xs = Reads false c en p xs
 
@@ -43,27 +43,27 @@ module _ (c : ℕ → Fetched) (en : ℕ → ℕ) (leader : ℕ → Bool) (befor
 
   -- the words of a branch before the fall
   abbrev front : Ins → ℕ → ℕ → List Item
-  front i a at = guards_of i ++ (Plain (ins (opposite i.kind) 0 i.rs1 i.rs2 (pos (4 + sum_of_sizes false (goes a (target i at))))) ∷ (goes a (target i at) ++ turn a ((at + 4) % 2 ^ 64)))
+  front i a at =
+      Plain (ins (opposite i.kind) 0 i.rs1 i.rs2 (pos (4 + sum_of_sizes false (taken i a (target i at))))) ∷ (taken i a (target i at) ++ (check_way (opposite i.kind) i ++ turn a ((at + 4) % 2 ^ 64)))
 
-  front_is : (fall : ℕ → List Item) (i : Ins) (a at : ℕ) → leave_as before fall class.Branch i a at ≡ front i a at ++ fall ((at + 4) % 2 ^ 64)
+  front_is : (fall : ℕ → List Item) (i : Ins) (a at : ℕ) → leave_as d before fall class.Branch i a at ≡ front i a at ++ fall ((at + 4) % 2 ^ 64)
   front_is fall i a at =
       let n = (at + 4) % 2 ^ 64 in
-      let b = Plain (ins (opposite i.kind) 0 i.rs1 i.rs2 (pos (4 + sum_of_sizes false (goes a (target i at))))) in
-      let g = goes a (target i at) in
-      ap (λ l. guards_of i ++ (b ∷ l)) (sym (append_assoc g (turn a n) (fall n))) ∙ sym (append_assoc (guards_of i) (b ∷ (g ++ turn a n)) (fall n))
+      let b = Plain (ins (opposite i.kind) 0 i.rs1 i.rs2 (pos (4 + sum_of_sizes false (taken i a (target i at))))) in
+      ap (λ l. b ∷ l) (sym (append_assoc (taken i a (target i at)) (check_way (opposite i.kind) i ++ turn a n) (fall n)))
 
   swap_as :
-      (k : Class) (i : Ins) (a at p : ℕ) (rest : List Item) → R p (leave_as before (fall_words leader) k i a at ++ rest)
-      → ((t : ℕ) → (is_branch k && ((at + 4) % 2 ^ 64 == t)) ≡ true → leader t ≡ true → Marked rest t) → R p (leave_as before (fall_to leader) k i a at)
+      (k : Class) (i : Ins) (a at p : ℕ) (rest : List Item) → R p (leave_as d before (fall_words leader) k i a at ++ rest)
+      → ((t : ℕ) → (is_branch k && ((at + 4) % 2 ^ 64 == t)) ≡ true → leader t ≡ true → Marked rest t) → R p (leave_as d before (fall_to leader) k i a at)
   swap_as class.Branch i a at p rest r m =
       let n = (at + 4) % 2 ^ 64 in
       let x = swap_fall (front i a at) n p rest (subst (λ l. R p (l ++ rest)) (front_is (fall_words leader) i a at) r) (λ e. m n (eq-eqb n n refl) e) in
       subst (λ l. R p l) (sym (front_is (fall_to leader) i a at)) x
-  swap_as k i a at p rest r m = reads_front false c en p (leave_as before (fall_to leader) k i a at) rest r
+  swap_as k i a at p rest r m = reads_front false c en p (leave_as d before (fall_to leader) k i a at) rest r
 
   swap_leave :
-      (e : End) (a at p : ℕ) (rest : List Item) → R p (leave before (fall_words leader) e a at ++ rest) → ((t : ℕ) → goes_on e at t ≡ true → leader t ≡ true → Marked rest t)
-      → R p (leave before (fall_to leader) e a at)
+      (e : End) (a at p : ℕ) (rest : List Item) → R p (leave d before (fall_words leader) e a at ++ rest) → ((t : ℕ) → goes_on e at t ≡ true → leader t ≡ true → Marked rest t)
+      → R p (leave d before (fall_to leader) e a at)
   swap_leave Falls a at p rest r m = swap_fall (turn a at) at p rest r (λ e. m at (eq-eqb at at refl) e)
   swap_leave (Stops i) a at p rest r m = swap_as (class_of i.kind) i a at p rest r m
 
@@ -109,13 +109,13 @@ module _ (w : World) (l : Lean) (leader : ℕ → Bool) where
       let t = s.enter b.start in
       let ps = pieces_of s b.body b.start in
       let a = l.start_of b.end at in
-      let words = leave (before_end w.form) (fall_words leader) b.end a at in
-      let falls = leave (before_end w.form) (fall_to leader) b.end a at in
+      let words = leave l.distance (before_end w.form) (fall_words leader) b.end a at in
+      let falls = leave l.distance (before_end w.form) (fall_to leader) b.end a at in
       let shape : (t ++ (ps ++ words)) ++ rest ≡ (t ++ ps) ++ (words ++ rest) = ap (λ k. k ++ rest) (sym (append_assoc t ps words)) ∙ append_assoc (t ++ ps) words rest in
       let whole : Reads false w.code w.entry p ((t ++ ps) ++ (words ++ rest)) = subst (λ k. Reads false w.code w.entry p k) shape r.1 in
       let first = reads_front false w.code w.entry p (t ++ ps) (words ++ rest) whole in
       let behind = reads_behind false w.code w.entry p (t ++ ps) (words ++ rest) whole in
-      let left = swap_leave w.code w.entry leader (before_end w.form) b.end a at (p + sum_of_sizes false (t ++ ps)) rest behind next in
+      let left = swap_leave w.code w.entry leader l.distance (before_end w.form) b.end a at (p + sum_of_sizes false (t ++ ps)) rest behind next in
       let joined : Reads false w.code w.entry p (t ++ (ps ++ falls)) = subst (λ k. Reads false w.code w.entry p k) (append_assoc t ps falls) (reads_join false w.code w.entry p (t ++ ps) falls first left) in
       let read : Reads false w.code w.entry p (t ++ (pieces_of (weave_of w l leader).code b.body b.start ++ falls)) = subst (λ k. Reads false w.code w.entry p (t ++ (k ++ falls))) (pieces_same b.body b.start) joined in
       record { reads = (refl, subst (λ q. Reads false w.code w.entry q (t ++ (pieces_of (weave_of w l leader).code b.body b.start ++ falls))) (sym r.0) read); good = good; counts = counted }

@@ -8,13 +8,12 @@ use Rattle.qed_model.specs.Promise.Clean.{Clean}
 use Rattle.qed_model.specs.Promise.Kept.{Kept}
 use Rattle.qed_model.specs.Weave.Blocks.{begins_at}
 use Rattle.qed_model.specs.Weave.Code.{Sequences, entries_of}
-use Rattle.qed_model.specs.Weave.Bounds.{cost_of, entry_steps}
 use Rattle.qed_model.specs.Weave.Pieces.{piece_count}
 use Rattle.qed_model.specs.Weave.Placed.{instructions_from}
 use Rattle.qed_model.specs.Weave.Sequences.{Reads, Block, stub}
-use Rattle.qed_model.specs.Weave.Lean.{call_at, check, begin}
+use Rattle.qed_model.specs.Weave.Lean.{check, begin}
 use Rattle.qed_model.specs.Weave.LeanCode.{Lean, worded}
-use Rattle.qed_model.specs.Weave.LeanBounds.{period, word_bound}
+use Rattle.qed_model.specs.Weave.LeanBounds.{cost_of, entry_steps, call_steps, period, word_bound}
 use Rattle.weave_core.specs.World.{World, Item, Program, Known, HasAt, Ins}
 use Rattle.weave_core.specs.KindItems.{LockItems, AllLand, OpenEntries, AllBlocks}
 use Rattle.weave_core.specs.Kinds.{opens}
@@ -22,7 +21,7 @@ use Rattle.weave_core.specs.Lock.{Opens}
 use Rattle.weave_core.specs.Leaving.{sweep_cost}
 use Rattle.weave_core.specs.WeaveLaws.{EntriesAt}
 use Rattle.weave_core.proofs.Lemmas.{reads_front, instructions_then, reads_words, stub_opens, items_then, all_land_append, has_rest, opens_behind, length-instructions, WeaveIn, kept, quiet_at}
-use Rattle.lockstep.proofs.Lemmas.{round_some, CalmCode, cleaned, faults_found, WordAt, stub_words, reads_rest, word_of, stub_open, Times, BoundsBy, settles, Sizes, all_blocks}
+use Rattle.lockstep.proofs.Lemmas.{round_some, CalmCode, cleaned, faults_found, WordAt, stub_words, reads_rest, word_of, stub_open, Times, BoundsBy, CaughtAll, caught_of, settles_all, Sizes, all_blocks}
 use Rattle.lockstep.specs.InstructionFaults.{FaultsFound}
 use Rattle.lean.specs.Woven.{LeanPlan, LeanKept, LeanCaught, LeanClean, IsBoundsOf, weave_of, check_steps, swept_steps}
 use Rattle.lean.proofs.Weave.Beats.{sizes, traced, Bound, swept_end}
@@ -46,7 +45,7 @@ module _ (f g : Program) (w : World) (l : Lean) (blocks : List Block) (p : LeanP
   first = begin w.distance f.entry
 
   abbrev middle : List Item
-  middle = check w.base (call_at l.land) l.every w.form.round w.form.spans
+  middle = check w.base w.distance l.every w.form.round w.form.spans
 
   abbrev last : List Item
   last = entries_of sequences blocks
@@ -97,7 +96,7 @@ module _ (f g : Program) (w : World) (l : Lean) (blocks : List Block) (p : LeanP
   good = all_blocks w (weave_of w l leader) leader blocks p.good
 
   rest_items : LockItems false (middle ++ last)
-  rest_items = items_then false middle last (check_items false w.base (call_at l.land) l.every w.form.round w.form.spans) (entries_locks w l leader blocks good)
+  rest_items = items_then false middle last (check_items false w.base w.distance l.every w.form.round w.form.spans) (entries_locks w l leader blocks good)
 
   body_items : LockItems false (first ++ (middle ++ last))
   body_items = items_then false first (middle ++ last) (begin_items w.distance f.entry) rest_items
@@ -144,7 +143,7 @@ module _ (f g : Program) (w : World) (l : Lean) (blocks : List Block) (p : LeanP
       let open_yz : opens ((y ++ z) ++ stub_words) ≡ true = subst (λ k. opens (k ++ stub_words) ≡ true) (instructions_then false w.entry at_check middle last) ((rest_items w.entry at_check).front stub_words stub_opens) in
       let open_z : opens (z ++ stub_words) ≡ true = (entries_locks w l leader blocks good w.entry at_cells).front stub_words stub_opens in
       let one = begin_lands w.distance f.entry w.code w.entry g.entry ((y ++ z) ++ stub_words) (omega (arith, near, count)) has open_yz entries_open in
-      let two = check_lands false w.base (call_at l.land) l.every w.form.round w.form.spans w.code w.entry at_check (z ++ stub_words) (omega (arith, near, count)) has_y open_z entries_open in
+      let two = check_lands false w.base w.distance l.every w.form.round w.form.spans w.code w.entry at_check (z ++ stub_words) (omega (arith, near, count)) has_y open_z entries_open in
       let three = entries_land w l leader (omega (arith, near, count, check_is)) check_open entries_open blocks at_cells good (omega (arith, near, count)) reads_cells in
       subst (AllLand w.code g.entry) (sym whole) (all_land_append w.code g.entry x (y ++ z) one (all_land_append w.code at_check y z two three))
 
@@ -184,31 +183,34 @@ module _ (f g : Program) (w : World) (l : Lean) (blocks : List Block) (p : LeanP
     times : Times w z w.form.round
     times = record { words = refl; same = λ h. round_some (word_count w.form.spans) w.form.round h; some = round; big = omega arith; fits = omega arith }
 
-    by : BoundsBy w z w.form.round (32 + entry_steps l.land) bounds
+    by : BoundsBy w z w.form.round (31 + (entry_steps l.land + call_steps l.land)) bounds
     by = record {
       register = let r = are.register in omega (arith, r);
-      word = λ h. are.word ∙ word_some (word_count w.form.spans) h ∙ ap Some (sum (swept_steps w) ((piece_count w.form.round (word_count w.form.spans) + 1) * (check_steps w + (l.every + entry_steps l.land))));
+      word = λ h. are.word ∙ word_some (word_count w.form.spans) h ∙ ap Some (sum (swept_steps w) ((piece_count w.form.round (word_count w.form.spans) + 1) * (check_steps w + (l.every + entry_steps l.land + call_steps l.land))));
     } where
-      word_some : (n : ℕ) → 1 ≤ n → word_bound l.land n w.form.round (swept_steps w) (period l.land (check_steps w) l.every) ≡ Some (65 + entry_steps l.land + swept_steps w + (piece_count w.form.round n + 1) * (check_steps w + (l.every + entry_steps l.land)))
+      word_some : (n : ℕ) → 1 ≤ n → word_bound l.land n w.form.round (swept_steps w) (period l.land (check_steps w) l.every) ≡ Some (53 + entry_steps l.land + call_steps l.land + swept_steps w + (piece_count w.form.round n + 1) * (check_steps w + (l.every + entry_steps l.land + call_steps l.land)))
       word_some zero h = absurd (omega (arith, h))
       word_some (suc n) h = refl
 
-      sum : (s n : ℕ) → 65 + entry_steps l.land + s + n ≡ 32 + entry_steps l.land + (2 + s) + (n + 31)
+      sum : (s n : ℕ) → 53 + entry_steps l.land + call_steps l.land + s + n ≡ 31 + (entry_steps l.land + call_steps l.land) + (2 + s) + (n + 20)
       sum s n = omega arith
 
-    pub catches : Caught f g w.reached w.form.spans bounds
-    catches = record {
-      settles = λ regs cs b start ordered free bound steady going.
-          settles f g w calm regs start z w.form.round (32 + entry_steps l.land) (Bound f g w l leader p.sound p.world entries counts p.begins p.ticked begins regs start) times (traced f g w l leader p.sound p.world entries counts p.begins p.ticked begins regs start) bounds by cs b ordered free bound steady;
+    catches_all : CaughtAll f g w bounds
+    catches_all = record {
+      settles = λ regs cs b start ordered free bound steady.
+          settles_all f g w calm regs start z w.form.round (31 + (entry_steps l.land + call_steps l.land)) (Bound f g w l leader p.sound p.world entries counts p.begins p.ticked begins regs start) times (traced f g w l leader p.sound p.world entries counts p.begins p.ticked begins regs start) bounds by cs b ordered free bound steady;
     }
+
+    pub catches : Caught f g w.reached w.form.spans bounds
+    catches = caught_of f g w bounds calm catches_all
 
     -- so are wrong results, as changes
     pub finds : FaultsFound f g w.reached w.form.spans bounds
-    finds = faults_found f g w bounds calm (omega (arith, are.register)) (λ b e. wide (word_count w.form.spans) b (sym are.word ∙ e)) catches where
+    finds = faults_found f g w bounds calm (omega (arith, are.register)) (λ b e. wide (word_count w.form.spans) b (sym are.word ∙ e)) catches_all where
       wide : (n b : ℕ) → word_bound l.land n w.form.round (swept_steps w) (period l.land (check_steps w) l.every) ≡ Some b → 2 ≤ b
       wide zero b e = absurd (cc)
       wide (suc n) b e =
-          let is : 65 + entry_steps l.land + swept_steps w + (piece_count w.form.round (suc n) + 1) * period l.land (check_steps w) l.every ≡ b = cc in
+          let is : 53 + entry_steps l.land + call_steps l.land + swept_steps w + (piece_count w.form.round (suc n) + 1) * period l.land (check_steps w) l.every ≡ b = cc in
           omega (arith, is)
 
   -- ---- with the sweep none ends silently
@@ -221,7 +223,7 @@ module _ (f g : Program) (w : World) (l : Lean) (blocks : List Block) (p : LeanP
 -- ---- the laws
 pub lean_kept : LeanKept
 lean_kept f g w l blocks p = subst (λ n. Kept f g w.reached (31 + swept_steps w) n) (sum (check_steps w) (cost_of l.diverse * l.inst_max)) (kept f g w (weave_of w l (begins_at blocks)) (begins_at blocks) (woven f g w l blocks p)) where
-  sum : (c m : ℕ) → 1 + 2 * entry_steps l.land + c + (m + 19) ≡ 20 + 2 * entry_steps l.land + c + m
+  sum : (c m : ℕ) → 2 * entry_steps l.land + (call_steps l.land + c) + (m + 27) ≡ 27 + call_steps l.land + 2 * entry_steps l.land + c + m
   sum c m = omega arith
 
 pub lean_caught : LeanCaught

@@ -9,7 +9,7 @@ use Rattle.tests.specs.declared.options.Entries.TheVariants as entries
 use Rattle.tests.specs.Admission.Leaders.{Even, IsLeader}
 use Rattle.machine.specs.Members.{Among}
 use Rattle.qed_model.specs.Weave.Blocks.{StopsAt, IsLeaderBlock, begins_at, AreBlocks, ElfFile, Options}
-use Rattle.qed_model.specs.Weave.Bounds.{cost_of, entry_steps}
+use Rattle.qed_model.specs.Weave.LeanBounds.{cost_of, entry_steps}
 use Rattle.qed_model.specs.Weave.SoundOptions.{AreSoundOptions}
 use Rattle.qed_model.specs.Weave.Sequences.{Block, End, Falls, Stops, body_length}
 use Rattle.qed_model.specs.Weave.LeanCode.{block_steps}
@@ -34,13 +34,13 @@ multiple n a some grain =
 
 module _ (f : ElfFile) (o : Options) (every : ℕ) (sound : AreSoundOptions o) (lean : o.lean ≡ Some every) where
   -- ---- the options
-  is_sound : (o.entries ≡ entries.Reached) × (every ≤ 2048) × (entry_steps o.land + 19 + cost_of o.diverse * o.inst_max < every)
-  is_sound = subst (λ x. IfSome x (λ n. (o.entries ≡ entries.Reached) × (n ≤ 2048) × (entry_steps o.land + 19 + cost_of o.diverse * o.inst_max < n))) lean sound.lean
+  is_sound : (o.entries ≡ entries.Reached) × (every ≤ 2047) × (entry_steps o.land + 27 + cost_of o.diverse * o.inst_max < every)
+  is_sound = subst (λ x. IfSome x (λ n. (o.entries ≡ entries.Reached) × (n ≤ 2047) × (entry_steps o.land + 27 + cost_of o.diverse * o.inst_max < n))) lean sound.lean
 
   pub only_reached : o.entries ≡ entries.Reached
   only_reached = is_sound.0
 
-  pub few_steps : every ≤ 2048
+  pub few_steps : every ≤ 2047
   few_steps = is_sound.1
 
   -- ---- a block
@@ -60,7 +60,7 @@ module _ (f : ElfFile) (o : Options) (every : ℕ) (sound : AreSoundOptions o) (
 
   -- and so many steps at most
   abbrev pub own_most : ℕ
-  own_most = entry_steps o.land + 19 + cost_of o.diverse * o.inst_max
+  own_most = entry_steps o.land + 27 + cost_of o.diverse * o.inst_max
 
   pub own_few : own_most < every
   own_few = is_sound.2

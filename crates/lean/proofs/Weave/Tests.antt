@@ -1,5 +1,5 @@
 -- The lean form of an admitted test: all of it has words, where it has no more bytes than a JAL spans; it is a plan, and so are the promises over tests.
-use Rattle.std.proofs.Common.{◌≡◌, ℕ, ◌+◌, ◌*◌, ◌%◌, ◌^◌, ◌<◌, ◌≤◌, Bool, true, false, List, [], ◌∷◌, ◌++◌, length, Some, refl, sym, ap, ◌∙◌, subst, arith, append_assoc, ◌-◌, inl, inr}
+use Rattle.std.proofs.Common.{◌≡◌, ℕ, ◌+◌, ◌*◌, ◌%◌, ◌^◌, ◌<◌, ◌≤◌, Bool, true, false, List, [], ◌∷◌, ◌++◌, length, Some, refl, sym, ap, ◌∙◌, subst, arith, append_assoc, length-append, ◌-◌, inl, inr}
 use Rattle.std.specs.Prelude.{map, All, pos, unwrap_or, Option, None, if◌then◌else◌}
 use Rattle.std.proofs.lemmas.Bool.{and_from, eq-eqb, false≢true}
 use Rattle.std.proofs.Math.Nat.{min-le_left}
@@ -12,7 +12,6 @@ use Rattle.tests.specs.Admission.Leaders.{is_indirect}
 use Rattle.tests.specs.Admission.Reached.{AreReached}
 use Rattle.machine.specs.Loading.{loaded_file}
 use Rattle.machine.specs.Members.{Among}
-use Rattle.qed_model.specs.Weave.Bounds.{cost_of, entry_steps}
 use Rattle.qed_model.specs.Weave.Blocks.{StopsAt, IsBodyAt, IsLeaderBlock, begins_at, Options}
 use Rattle.qed_model.specs.Weave.Code.{Sequences, AreUnmarked, entries_of, code_of, NoMarks, pieces_of, body_of, block_items}
 use Rattle.tests.specs.Admission.Places.{base_of, image_of, half_of, code_place}
@@ -21,8 +20,8 @@ use Rattle.machine.specs.Offsets.{distance_between}
 use Rattle.qed_model.specs.Weave.Sequences.{Form, End, Falls, Stops, Reads, Block, body_length, stub, original, each_part, before_end}
 use Rattle.qed_model.specs.Weave.Forms.{form_of, mirror_of}
 use Rattle.qed_model.specs.Weave.Lean.{call_at, check, begin, leave}
-use Rattle.qed_model.specs.Weave.LeanCode.{lean_of, lean_items, items_with, start_at, Lean, worded, fall_words, Counting, counting_of}
-use Rattle.qed_model.specs.Weave.LeanBounds.{lean_bounds}
+use Rattle.qed_model.specs.Weave.LeanCode.{lean_of, lean_items, items_with, start_at, Lean, is_store, store_part, both_parts, parts_with, worded, fall_words, Counting, counting_of}
+use Rattle.qed_model.specs.Weave.LeanBounds.{cost_of, entry_steps, lean_bounds}
 use Rattle.qed_model.proofs.Lemmas.{sound_most, size-append, IsInside, mark_inside, grain_of_sizes, is_near, IsNearCode, near_jump, near_words, has_word}
 use Rattle.tests.proofs.Lemmas.{fetch_word, fetched_code, known_instruction}
 use Rattle.weave_core.specs.World.{World, Item, Program, Known, known_or, class_of, Go}
@@ -38,6 +37,7 @@ use Rattle.lean.proofs.Weave.Blocks.{begun, begins, length_is, leading, starts, 
 use Rattle.lean.proofs.Weave.Short.{only_reached, few_steps, own_most, own_few, short}
 use Rattle.lean.proofs.Weave.Ticks.{entry_ticks, entered_ticks, few_most, all_counted}
 use Rattle.lean.proofs.Weave.Landed.{lean_landed}
+use Rattle.lean.proofs.Weave.Piece.{store_class}
 use Rattle.lean.proofs.Weave.Plan.{entry_grain}
 use Rattle.lean.proofs.Weave.Strays.{lean_strayed}
 use Rattle.lean.proofs.Weave.Promise.{lean_kept, lean_caught, lean_faults, lean_clean}
@@ -48,7 +48,7 @@ use Rattle.std.proofs.lemmas.List.Elements.{All-head, All-tail}
 use Rattle.tests.specs.Admission.DataRanges.{data_ranges}
 use Rattle.machine.specs.Table.{ins, decode_of, Illegal, Jal}
 use Rattle.qed_model.specs.Promise.Landed.{IsEntry}
-use Rattle.lean.proofs.Weave.Near.{check_near, begin_near, enter_near, leave_near, before_near}
+use Rattle.lean.proofs.Weave.Near.{check_near, begin_near, enter_near, store_near, leave_near, before_near}
 use Rattle.weave_core.proofs.FileOfItems as of
 use Rattle.weave_core.proofs.TestKnown as there
 use Rattle.weave_core.proofs.TestWords as words
@@ -107,12 +107,12 @@ module _ (f : ElfFile) (o : Options) (every : ℕ) (blocks : List Block) (t : Ar
   few_ahead a =
       let own = own_few f o every t.sound t.lean in
       let most = few_most counting (own_most f o every t.sound t.lean) blocks (λ b m. short f o every t.sound t.lean blocks t.are grain b m) a in
-      let room = min-le_left (every - (entry_steps o.land + 20 + cost_of o.diverse * o.inst_max)) 48 in
+      let room = min-le_left (every - (entry_steps o.land + 28 + cost_of o.diverse * o.inst_max)) 48 in
       omega (arith, own, most, room)
 
   -- ---- where the entries are
   abbrev first : List Item
-  first = begin d f.entry ++ check base (call_at o.land) every form.round form.spans
+  first = begin d f.entry ++ check base d every form.round form.spans
 
   no_first : NoMarks first
   no_first = (unmarked_worded form base (λ a. 0) l (begins_at blocks)).first d f.entry
@@ -145,7 +145,7 @@ module _ (f : ElfFile) (o : Options) (every : ℕ) (blocks : List Block) (t : Ar
         let c = code_grain in
         let whole = code_size form base l (begins_at blocks) (λ a. 0) placed_at d f.entry blocks in
         let joined = size-append false first rest in
-        let parts = size-append false (begin d f.entry) (check base (call_at o.land) every form.round form.spans) in
+        let parts = size-append false (begin d f.entry) (check base d every form.round form.spans) in
         let some : 4 ≤ sum_of_sizes false rest = let z = size-append false (entries_of (s (λ a. 0)) blocks) stub in omega (arith, z) in
         let long : sum_of_sizes false (begin d f.entry) ≡ 124 = refl in
         let call = call_fits o.land in
@@ -157,12 +157,36 @@ module _ (f : ElfFile) (o : Options) (every : ℕ) (blocks : List Block) (t : Ar
     fall_near : (a : ℕ) → list_all near_code (fall_words (begins_at blocks) a) ≡ true
     fall_near a = if_all near_code (begins_at blocks a) [] (Go a ∷ []) (λ e. refl) (λ e. refl)
 
+    -- instructions with their words, from an address on
+    abbrev Knows : List Ins → ℕ → Type 0
+    Knows is a = words.AllKnown at base d refl top bounds.1 is a
+
+    both_near : (is : List Ins) (a : ℕ) → Knows is a → list_all near_code (both_parts o.diverse is a) ≡ true
+    both_near is a k =
+        both_all near_code (each_part original is a) (each_part (mirror_of o.diverse) is a) (words.each_near at base d refl top bounds.1 original (words.original_near at base d refl top bounds.1) is a k)
+        (words.each_near at base d refl top bounds.1 (mirror_of o.diverse) (there.mirrors_near f o t.sound t.file.loads t.admitted blocks t.are o.diverse) is a k)
+
+    one_more : (run : List Ins) (i : Ins) (a : ℕ) → Knows run a → words.Known at base d refl top bounds.1 i (a + 4 * length run) → Knows (run ++ (i ∷ [])) a
+    one_more [] i a k h = let z : a + 4 * 0 ≡ a = omega arith in (subst (words.Known at base d refl top bounds.1 i) z h, tt)
+    one_more (j ∷ run) i a k h = let z : a + 4 * length (j ∷ run) ≡ a + 4 + 4 * length run = omega arith in (k.0, one_more run i (a + 4) k.1 (subst (words.Known at base d refl top bounds.1 i) z h))
+
+    parts_near : (run : List Ins) (a : ℕ) (is : List Ins) → Knows run a → Knows is (a + 4 * length run) → list_all near_code (parts_with o.diverse run a is) ≡ true
+    parts_near run a [] k h = both_near run a k
+    parts_near run a (i ∷ is) k h =
+        let n = a + 4 * length run in
+        let long : a + 4 * length run + 4 ≡ a + 4 * length run + 4 + 4 * 0 = omega arith in
+        let more : a + 4 * length run + 4 ≡ a + 4 * length (run ++ (i ∷ [])) = let c = length-append run (i ∷ []) in omega (arith, c) in
+        let rest = parts_with o.diverse [] (n + 4) is in
+        if_all near_code (is_store (class_of i.kind)) (both_parts o.diverse run a ++ (store_part i ++ rest)) (parts_with o.diverse (run ++ (i ∷ [])) a is)
+        (λ e. both_all near_code (both_parts o.diverse run a) (store_part i ++ rest) (both_near run a k)
+        (both_all near_code (store_part i) rest (store_near at base d refl top bounds.1 i n (store_class (class_of i.kind) e) h.0) (parts_near [] (n + 4) is tt (subst (Knows is) long h.1))))
+        (λ e. parts_near (run ++ (i ∷ [])) a is (one_more run i a k h.0) (subst (Knows is) more h.1))
+
     pieces_near : (ps : List (List Ins)) (a : ℕ) → AllPieces at base d refl top bounds.1 ps a → list_all near_code (pieces_of (s placed_at) ps a) ≡ true
     pieces_near [] a k = refl
     pieces_near (p ∷ ps) a k =
-        both_all near_code (each_part original p a ++ each_part (mirror_of o.diverse) p a) (pieces_of (s placed_at) ps (a + 4 * length p))
-        (both_all near_code (each_part original p a) (each_part (mirror_of o.diverse) p a) (words.each_near at base d refl top bounds.1 original (words.original_near at base d refl top bounds.1) p a k.0) (words.each_near at base d refl top bounds.1 (mirror_of o.diverse) (there.mirrors_near f o t.sound t.file.loads t.admitted blocks t.are o.diverse) p a k.0))
-        (pieces_near ps (a + 4 * length p) k.1)
+        let here : a ≡ a + 4 * 0 = omega arith in
+        both_all near_code (parts_with o.diverse [] a p) (pieces_of (s placed_at) ps (a + 4 * length p)) (parts_near [] a p tt (subst (Knows p) here k.0)) (pieces_near ps (a + 4 * length p) k.1)
 
     block_near : (b : Block) → Among b blocks → IsKnownBlock at base d refl top bounds.1 b → list_all near_code (block_items (s placed_at) b) ≡ true
     block_near b m k =
@@ -172,8 +196,8 @@ module _ (f : ElfFile) (o : Options) (every : ℕ) (blocks : List Block) (t : Ar
         let less = few_ahead b.start in
         let few = few_steps f o every t.sound t.lean in
         both_all near_code ((s placed_at).enter b.start) (body_of (s placed_at) b.body b.end b.start) (enter_near at base d refl top bounds.1 o.land (l.ticks b.start) b.start (l.most b.start) (distance_between (placed_at b.start + call_at o.land) l.check) k.0 k.1 (omega (arith, less, few)) (calls b.start (begins blocks b m)))
-        (both_all near_code (pieces_of (s placed_at) b.body b.start) (leave (before_end form) (fall_words (begins_at blocks)) b.end a n) (pieces_near b.body b.start k.2)
-        (leave_near at base d refl top bounds.1 (before_end form) (fall_words (begins_at blocks)) (before_near at base d refl top bounds.1 form spans) fall_near a (let low = k.0 in omega (arith, own, low)) (let high = k.1 in omega (arith, own, high)) b.end n k.3))
+        (both_all near_code (pieces_of (s placed_at) b.body b.start) (leave d (before_end form) (fall_words (begins_at blocks)) b.end a n) (pieces_near b.body b.start k.2)
+        (leave_near at base d refl top bounds.1 (before_end form) (fall_words (begins_at blocks)) (before_near at base d refl top bounds.1 form spans) fall_near bounds.0 a (let low = k.0 in omega (arith, own, low)) (let high = k.1 in omega (arith, own, high)) b.end n k.3))
 
     entries_near : (bs : List Block) → ((b : Block) → Among b bs → Among b blocks) → All (IsKnownBlock at base d refl top bounds.1) bs → list_all near_code (entries_of (s placed_at) bs) ≡ true
     entries_near [] h k = refl
@@ -193,7 +217,7 @@ module _ (f : ElfFile) (o : Options) (every : ℕ) (blocks : List Block) (t : Ar
         let b = there.in_bounds f o t.sound t.file.loads t.admitted blocks t.are f.entry t.admitted.entry in
         let high = b.1 in
         both_all near_code first (entries_of (s placed_at) blocks ++ stub)
-        (both_all near_code (begin d f.entry) (check base (call_at o.land) every form.round form.spans) (begin_near at base d refl top bounds.1 f.entry bounds.0 b.0 (omega (arith, high))) (check_near at base d refl top bounds.1 o.land every form.round form.spans spans (few_steps f o every t.sound t.lean)))
+        (both_all near_code (begin d f.entry) (check base d every form.round form.spans) (begin_near at base d refl top bounds.1 f.entry bounds.0 b.0 (omega (arith, high))) (check_near at base d refl top bounds.1 every form.round form.spans bounds.0 spans))
         (both_all near_code (entries_of (s placed_at) blocks) stub (entries_near blocks (λ b m. m) (there.blocks_there f o t.sound t.file.loads t.admitted blocks t.are blocks t.are.each)) (words.stub_near at base d refl top bounds.1))
 
     have_words : (ws : List ℕ) × IsLeanTest f o every blocks ws
@@ -300,8 +324,8 @@ module _ (f : ElfFile) (o : Options) (every : ℕ) (blocks : List Block) (t : Ar
       sound = record {
         near = refl;
         small = let h = of.half_small (image_of f) o.half t.admitted.span t.sound.half in omega (arith, h);
-        some = let k = few_ahead f.entry in omega (arith, k);
         few = few_steps f o every t.sound t.lean;
+        apart = refl;
         check = check_reads;
         ticks = λ a e. few_ahead a;
         codes = codes;
@@ -309,13 +333,12 @@ module _ (f : ElfFile) (o : Options) (every : ℕ) (blocks : List Block) (t : Ar
         entered = entered;
         known = known;
         table = table;
-        within = λ a e. let b = of.block_bounds f o t.sound t.file.loads t.admitted blocks t.are a e in let h = of.half_small (image_of f) o.half t.admitted.span t.sound.half in omega (arith, b.1, h);
       } where
-        check_reads : Reads false w.code w.entry l.check (check base (call_at o.land) every form.round form.spans)
+        check_reads : Reads false w.code w.entry l.check (check base d every form.round form.spans)
         check_reads =
             let rest = entries_of (s w.entry) blocks ++ stub in
-            let whole : Reads false w.code w.entry at (begin d f.entry ++ (check base (call_at o.land) every form.round form.spans ++ rest)) = subst (λ k. Reads false w.code w.entry at k) (append_assoc (begin d f.entry) (check base (call_at o.land) every form.round form.spans) rest) reads in
-            reads_front false w.code w.entry l.check (check base (call_at o.land) every form.round form.spans) rest (reads_behind false w.code w.entry at (begin d f.entry) (check base (call_at o.land) every form.round form.spans ++ rest) whole)
+            let whole : Reads false w.code w.entry at (begin d f.entry ++ (check base d every form.round form.spans ++ rest)) = subst (λ k. Reads false w.code w.entry at k) (append_assoc (begin d f.entry) (check base d every form.round form.spans) rest) reads in
+            reads_front false w.code w.entry l.check (check base d every form.round form.spans) rest (reads_behind false w.code w.entry at (begin d f.entry) (check base d every form.round form.spans ++ rest) whole)
 
       -- where the stub stands
       abbrev before_stub : List Item

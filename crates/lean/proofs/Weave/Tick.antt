@@ -1,83 +1,185 @@
--- The tick: it counts, and goes on or calls the check.
-use Rattle.std.proofs.Common.{◌≡◌, ℕ, ◌+◌, ◌-◌, ◌%◌, ◌^◌, ◌<◌, ◌≤◌, true, false, List, ◌∷◌, ◌++◌, length, refl, ap, ◌∙◌, subst, arith}
-use Rattle.std.specs.Prelude.{ℤ, pos}
+-- The tick: it counts, and goes on or to the check.
+use Rattle.std.proofs.Common.{◌≡◌, ℕ, ◌+◌, ◌*◌, ◌%◌, ◌^◌, ◌<◌, ◌≤◌, Bool, true, false, cond, not, List, [], ◌∷◌, ◌++◌, length, refl, ap, ◌∙◌, subst, arith}
+use Rattle.std.specs.Prelude.{ℤ, pos, slice_index}
 use Rattle.std.proofs.lemmas.Bool.{lt-ltb, le-ltb}
 use Rattle.rv_isa.specs.declared.class.Class.TheVariants as class
-use Rattle.rv_isa.proofs.RegsLaws.{slice_index-set_reg_other, slice_index-set_reg_same}
-use Rattle.machine.specs.Step.{State, reg, moved, jumped, next_pc, Known, set_reg, ins, Addi, Blt, Jal}
+use Rattle.machine.specs.Step.{State, reg, moved, jumped, result, computed_value, Known, ins, Addi, Slli, Bge, Jal}
 use Rattle.machine.specs.Offsets.{distance_between}
-use Rattle.qed_model.specs.Weave.Sequences.{Reads, fired_check, CURSOR, SPARE}
+use Rattle.qed_model.specs.Weave.Sequences.{Reads, fired_check, CURSOR, SIGNATURE, TEMPORARY, SPARE}
 use Rattle.qed_model.specs.Weave.Lean.{tick}
+use Rattle.qed_model.specs.Weave.LeanBounds.{call_steps}
 use Rattle.machine.proofs.Lemmas.{Over, over_moved, known_at, Walk, walk_one, walk_on, difference}
-use Rattle.weave_core.specs.World.{World, Quiet, Item, Plain, holds}
-use Rattle.weave_core.proofs.Lemmas.{addi_value, branch_taken, branch_passed, jumped_to, step-jump, quiet_as, compute_walk, signed_other, Sets, sets_compute}
+use Rattle.weave_core.specs.World.{World, Quiet, Item, Plain, Constant, holds, value}
+use Rattle.weave_core.proofs.Lemmas.{addi_value, branch_taken, branch_passed, jumped_to, step-jump, quiet_as, own_signed, AllTemps, Sets, sets_const, writes, writes_long}
+use Rattle.lean.specs.Ticked.{counted}
+use Rattle.lean.proofs.Weave.Chain.{Op, plain, items, Gives, read_back, all_temps, chain, chain_pc}
 
--- a number with its highest bit is below 0
-low_holds : (x : ℕ) → 2 ^ 63 ≤ x → holds Blt x 0 ≡ true
+-- ---- the bit
+-- a number below 2^63 is not below 0
+low_holds : (x : ℕ) → x < 2 ^ 63 → holds Bge x 0 ≡ true
 unfolding holds
-low_holds x h = rw (le-ltb x (2 ^ 63) h) refl
+low_holds x h = rw (lt-ltb x (2 ^ 63) h) (ap not (le-ltb x 0 (omega arith)))
 
--- one without it is not
-high_holds : (x : ℕ) → x < 2 ^ 63 → holds Blt x 0 ≡ false
+-- one with its highest bit is
+high_holds : (x : ℕ) → 2 ^ 63 ≤ x → holds Bge x 0 ≡ false
 unfolding holds
-high_holds x h = rw (lt-ltb x (2 ^ 63) h) (le-ltb x 0 (omega arith))
+high_holds x h = rw (le-ltb x (2 ^ 63) h) refl
 
--- where n steps are left, x15 has
-abbrev pub counter : ℕ → ℕ
-counter n = 2 ^ 64 - n
+-- bit 11 of a number is the highest of this one
+abbrev pub shifted : ℕ → ℕ
+shifted v = v * 2 ^ 52 % 2 ^ 64
 
-module _ (w : World) (u : State) (most n every : ℕ) (o : Over w.code u) (long : length u.regs ≡ 32) (zero_reg : reg u 0 ≡ 0) (at : reg u CURSOR ≡ counter n) (some : 1 ≤ n) (left : n ≤ every) (few : every ≤ 2048) (small : most ≤ 2048) where
-  -- the counter, where so many steps were left
-  count_set : (v : ℕ) (rest : List Item) → (counter n + most % 2 ^ 64) % 2 ^ 64 ≡ v → Reads w.form.far w.code w.entry u.pc (Plain (ins Addi CURSOR CURSOR 0 (pos most)) ∷ rest) → Sets w u 1 rest (set_reg CURSOR v u.regs)
-  count_set v rest e h = sets_compute w u (ins Addi CURSOR CURSOR 0 (pos most)) v rest o h refl (λ e. absurd (cc)) (addi_value u 15 15 (counter n) v (pos most) at e)
+low_bit : (k c : ℕ) → c ≤ 2047 → shifted (counted k c) < 2 ^ 63
+low_bit k c h = omega (arith, h)
 
-  -- enough steps are left
-  pub pass_row : (rest : List Item) (d : ℤ) → most < n → Reads w.form.far w.code w.entry u.pc (tick most d ++ rest) → Sets w u 2 rest (set_reg CURSOR (counter (n - most)) u.regs)
-  pass_row rest d lt h =
-      let v = counter (n - most) in
-      let l = set_reg CURSOR v u.regs in
-      let i = ins Blt 0 CURSOR 0 (pos 12) in
-      let s = count_set v (Plain i ∷ Plain (ins Jal SPARE 0 0 d) ∷ fired_check ∷ rest) (omega (arith, some, left, few, lt)) h in
-      let x = moved l s.pc u in
-      let near = w.low s.pc i s.reads.0 in
-      let grain = w.grain s.pc i s.reads.0 in
-      let fifteen : reg x CURSOR ≡ v = slice_index-set_reg_same u.regs 15 v (omega arith) (omega (arith, long)) in
-      let zero : reg x 0 ≡ 0 = slice_index-set_reg_other u.regs 15 v 0 (λ e. absurd (omega arith)) ∙ zero_reg in
-      let taken : holds Blt (reg x CURSOR) (reg x 0) ≡ true = ap (λ y. holds Blt (reg x CURSOR) y) zero ∙ ap (λ y. holds Blt y 0) fifteen ∙ low_holds v (omega (arith, left, few)) in
-      let there : (s.pc + 12) % 2 ^ 64 ≡ s.pc + 12 = omega (arith, near) in
-      let go = branch_taken w x i (s.pc + 12) (over_moved w.code u l s.pc o) s.reads.0 refl taken there (omega (arith, grain)) in
-      record { pc = s.pc + 12; walk = walk_on (Quiet w) u x (moved l (s.pc + 12) u) 1 1 s.walk go; reads = subst (λ p. Reads w.form.far w.code w.entry p rest) (three s.pc) s.reads.1.1.1 } where
-        three : (p : ℕ) → p + 4 + 4 + 4 ≡ p + 12
-        three p = omega arith
+high_bit : (k c : ℕ) → 2048 ≤ c → c < 4096 → 2 ^ 63 ≤ shifted (counted k c)
+high_bit k c h l = omega (arith, h, l)
 
-  -- or not: the check is called, with the link 12 bytes behind the tick's first word
+-- what SLLI by 52 gives
+slli_value : (u : State) (r a x z : ℕ) → reg u a ≡ x → x * 2 ^ 52 % 2 ^ 64 ≡ z → result Slli (ins Slli r a 0 (pos 52)) u ≡ z
+unfolding computed_value value
+slli_value u r a x z e g = rw e g
+
+-- ---- the jump
+jal_walk :
+    (w : World) (y : State) (to : ℕ) → Over w.code y → w.code y.pc ≡ Known (ins Jal 0 0 0 (distance_between y.pc to)) → to < 2 ^ 64 → to % 4 ≡ 0 → Walk (Quiet w) y 1 (moved y.regs to y)
+jal_walk w y to o k low grain =
+    let j = ins Jal 0 0 0 (distance_between y.pc to) in
+    let near = w.low y.pc j k in
+    walk_one (Quiet w) y _ (quiet_as w y j class.Jump o k refl (λ e. absurd (cc)) (λ e. absurd (cc)) tt)
+    (step-jump y j o.going (known_at w.code y j o k) refl ∙ ap (λ p. jumped y.regs p y) (difference y.pc to (omega (arith, near)) low) ∙ jumped_to y.regs to y grain)
+
+-- how far behind the tick's first word it stands
+abbrev pub jump_at : Bool → ℕ
+jump_at land = cond land 12 20
+
+-- ---- the row, where the count is n
+module _ (w : World) (u : State) (most n offset : ℕ) (o : Over w.code u) (long : length u.regs ≡ 32) (zero_reg : reg u 0 ≡ 0) (at : reg u CURSOR ≡ counted offset n) (high : n ≤ 2047) (few : offset < 2 ^ 32) (small : most ≤ 2047) where
+  abbrev now : ℕ
+  now = counted offset (n + most)
+
+  -- what is written before the branch
+  abbrev pub ticked : List (ℕ × ℕ)
+  ticked = (15, now) ∷ (31, shifted now) ∷ []
+
+  abbrev ops : List Op
+  ops = plain (ins Addi CURSOR CURSOR 0 (pos most)) now ∷ plain (ins Slli SPARE CURSOR 0 (pos 52)) (shifted now) ∷ []
+
+  gives : Gives u u.regs ops
+  gives =
+      let e1 : List (ℕ × ℕ) = (15, now) ∷ [] in (
+        refl,
+        λ e. absurd (cc),
+        λ p. addi_value (moved u.regs p u) 15 15 (counted offset n) now (pos most) at (omega (arith, high, few, small)),
+        (
+          refl,
+          λ e. absurd (cc),
+          λ p. slli_value (moved (writes e1 u.regs) p u) 31 15 now (shifted now) (read_back e1 u.regs 15 long refl) refl,
+          tt,
+        ),
+      )
+
+  abbrev before : State
+  before = moved (writes ticked u.regs) (u.pc + 8) u
+
+  record Front (tail : List Item) : Type 0 where
+    walk : Walk (Quiet w) u 2 before
+    reads : Reads w.form.far w.code w.entry (u.pc + 8) tail
+
+  front : (tail : List Item) → Reads w.form.far w.code w.entry u.pc (items ops ++ tail) → Front tail
+  front tail h =
+      let s = chain w u tail o ops long gives h in
+      let e = chain_pc w u tail o ops long gives h in
+      let there : s.pc ≡ u.pc + 8 = omega (arith, e) in
+      record { walk = subst (λ p. Walk (Quiet w) u 2 (moved (writes ticked u.regs) p u)) there s.walk; reads = subst (λ p. Reads w.form.far w.code w.entry p tail) there s.reads }
+
+  over : Over w.code before
+  over = over_moved w.code u (writes ticked u.regs) (u.pc + 8) o
+
+  test : (b : Bool) → holds Bge (shifted now) 0 ≡ b → holds Bge (reg before SPARE) (reg before 0) ≡ b
+  test b e = ap (λ y. holds Bge (reg before SPARE) y) (read_back ticked u.regs 0 long refl ∙ zero_reg) ∙ ap (λ y. holds Bge y 0) (read_back ticked u.regs 31 long refl) ∙ e
+
+  -- the count does not pass 2047
+  pub pass_row : (land : Bool) (a : ℕ) (rest : List Item) (d : ℤ) → n + most ≤ 2047 → Reads w.form.far w.code w.entry u.pc (tick land a most d ++ rest) → Sets w u 3 rest (writes ticked u.regs)
+  pass_row land a rest d le h = by land h where
+    goes : (to : ℕ) → Walk (Quiet w) u 2 before → Walk (Quiet w) before 1 (moved (writes ticked u.regs) to u) → Reads w.form.far w.code w.entry to rest → Sets w u 3 rest (writes ticked u.regs)
+    goes to a b r = record { pc = to; walk = walk_on (Quiet w) u before _ 2 1 a b; reads = r }
+
+    taken : holds Bge (reg before SPARE) (reg before 0) ≡ true
+    taken = test true (low_holds (shifted now) (low_bit offset (n + most) le))
+
+    by : (b : Bool) → Reads w.form.far w.code w.entry u.pc (tick b a most d ++ rest) → Sets w u 3 rest (writes ticked u.regs)
+    by true h =
+        let i = ins Bge 0 SPARE 0 (pos 12) in
+        let f = front (Plain i ∷ Plain (ins Jal 0 0 0 d) ∷ fired_check ∷ rest) h in
+        let near = w.low (u.pc + 8) i f.reads.0 in
+        let grain = w.grain (u.pc + 8) i f.reads.0 in
+        let there : u.pc + 8 + 4 + 4 + 4 ≡ u.pc + 8 + 12 = omega arith in
+        goes (u.pc + 8 + 12) f.walk (branch_taken w before i (u.pc + 8 + 12) over f.reads.0 refl taken (omega (arith, near)) (omega (arith, grain))) (subst (λ p. Reads w.form.far w.code w.entry p rest) there f.reads.1.1.1)
+    by false h =
+        let i = ins Bge 0 SPARE 0 (pos 20) in
+        let f = front (Plain i ∷ Constant TEMPORARY a ∷ Plain (ins Jal 0 0 0 d) ∷ fired_check ∷ rest) h in
+        let near = w.low (u.pc + 8) i f.reads.0 in
+        let grain = w.grain (u.pc + 8) i f.reads.0 in
+        let there : u.pc + 8 + 4 + 8 + 4 + 4 ≡ u.pc + 8 + 20 = omega arith in
+        goes (u.pc + 8 + 20) f.walk (branch_taken w before i (u.pc + 8 + 20) over f.reads.0 refl taken (omega (arith, near)) (omega (arith, grain))) (subst (λ p. Reads w.form.far w.code w.entry p rest) there f.reads.1.2.1.1)
+
+  -- or it does: at the check, with the address in x30
+  pub record Called (land : Bool) (a to : ℕ) : Type 0 where
+    pub effects : List (ℕ × ℕ)
+    pub temps : AllTemps effects
+    pub walk : Walk (Quiet w) u (3 + call_steps land) (moved (writes effects u.regs) to u)
+    pub fifteen : slice_index (writes effects u.regs) 15 ≡ counted offset (n + most)
+    pub sixteen : slice_index (writes effects u.regs) 16 ≡ reg u SIGNATURE
+    pub thirty : slice_index (writes effects u.regs) 30 ≡ a
+
   pub call_row :
-      (rest : List Item) (to : ℕ) → n ≤ most → to < 2 ^ 64 → to % 4 ≡ 0 → Reads w.form.far w.code w.entry u.pc (tick most (distance_between (u.pc + 8) to) ++ rest)
-      → Walk (Quiet w) u 3 (moved (set_reg SPARE (u.pc + 12) (set_reg CURSOR (most - n) u.regs)) to u)
-  call_row rest to le low grain h =
-      let v = most - n in
-      let l = set_reg CURSOR v u.regs in
-      let i = ins Blt 0 CURSOR 0 (pos 12) in
-      let j = ins Jal SPARE 0 0 (distance_between (u.pc + 8) to) in
-      let tail = Plain j ∷ fired_check ∷ rest in
-      let x : State = moved l (u.pc + 4) u in
-      let one : Walk (Quiet w) u 1 x = first_walk v (Plain i ∷ tail) (omega (arith, some, left, few, le, small)) h in
-      let ox = over_moved w.code u l (u.pc + 4) o in
-      let fifteen : reg x CURSOR ≡ v = slice_index-set_reg_same u.regs 15 v (omega arith) (omega (arith, long)) in
-      let zero : reg x 0 ≡ 0 = slice_index-set_reg_other u.regs 15 v 0 (λ e. absurd (omega arith)) ∙ zero_reg in
-      let lacks : holds Blt (reg x CURSOR) (reg x 0) ≡ false = ap (λ y. holds Blt (reg x CURSOR) y) zero ∙ ap (λ y. holds Blt y 0) fifteen ∙ high_holds v (omega (arith, small)) in
-      let two : Walk (Quiet w) x 1 (moved l (u.pc + 4 + 4) u) = branch_passed w x i ox h.1.0 refl lacks in
-      let e8 : u.pc + 4 + 4 ≡ u.pc + 8 = omega arith in
-      let y = moved l (u.pc + 8) u in
-      let two8 : Walk (Quiet w) x 1 y = subst (λ p. Walk (Quiet w) x 1 (moved l p u)) e8 two in
-      let oy = over_moved w.code u l (u.pc + 8) o in
-      let kj = subst (λ p. w.code p ≡ Known j) e8 h.1.1.0 in
-      let near = w.low (u.pc + 8) j kj in
-      let link : next_pc y ≡ u.pc + 12 = omega (arith, near) in
-      let last : Walk (Quiet w) y 1 (moved (set_reg SPARE (u.pc + 12) l) to u) = walk_one (Quiet w) y _ (quiet_as w y j class.Jump oy kj refl (λ e. absurd (cc)) (λ e. absurd (cc)) tt)
-      (step-jump y j oy.going (known_at w.code y j oy kj) refl ∙ ap (λ p. jumped (set_reg SPARE (next_pc y) l) p y) (difference (u.pc + 8) to (omega (arith, near)) low) ∙ jumped_to (set_reg SPARE (next_pc y) l) to y grain ∙ ap (λ k. moved (set_reg SPARE k l) to u) link) in
-      walk_on (Quiet w) u x _ 1 2 one (walk_on (Quiet w) x y _ 1 1 two8 last) where
-        first_walk : (v : ℕ) (rest : List Item) → (counter n + most % 2 ^ 64) % 2 ^ 64 ≡ v → Reads w.form.far w.code w.entry u.pc (Plain (ins Addi CURSOR CURSOR 0 (pos most)) ∷ rest) → Walk (Quiet w) u 1 (moved (set_reg CURSOR v u.regs) (u.pc + 4) u)
-        first_walk v rest e h =
-            let i = ins Addi CURSOR CURSOR 0 (pos most) in
-            subst (λ x. Walk (Quiet w) u 1 (moved (set_reg CURSOR x u.regs) (u.pc + 4) u)) (addi_value u 15 15 (counter n) v (pos most) at e) (compute_walk w u i o h.0 refl (signed_other w u i o h.0 (λ e z. absurd (cc))))
+      (land : Bool) (a to : ℕ) (rest : List Item) → 2048 ≤ n + most → a < 2 ^ 64 → reg u SIGNATURE ≡ a → (land ≡ true → reg u TEMPORARY ≡ a) → to < 2 ^ 64 → to % 4 ≡ 0
+      → Reads w.form.far w.code w.entry u.pc (tick land a most (distance_between (u.pc + jump_at land) to) ++ rest) → Called land a to
+  unfolding sets_const
+  call_row land a to rest ge low sign named far grain h = by land named h where
+    lacks : holds Bge (reg before SPARE) (reg before 0) ≡ false
+    lacks = test false (high_holds (shifted now) (high_bit offset (n + most) ge (omega (arith, high, small))))
+
+    by : (b : Bool) → (b ≡ true → reg u TEMPORARY ≡ a) → Reads w.form.far w.code w.entry u.pc (tick b a most (distance_between (u.pc + jump_at b) to) ++ rest) → Called b a to
+    by true named h =
+        let d = distance_between (u.pc + 12) to in
+        let i = ins Bge 0 SPARE 0 (pos 12) in
+        let f = front (Plain i ∷ Plain (ins Jal 0 0 0 d) ∷ fired_check ∷ rest) h in
+        let e : u.pc + 8 + 4 ≡ u.pc + 12 = omega arith in
+        let y = moved (writes ticked u.regs) (u.pc + 12) u in
+        let one : Walk (Quiet w) before 1 y = subst (λ p. Walk (Quiet w) before 1 (moved (writes ticked u.regs) p u)) e (branch_passed w before i over f.reads.0 refl lacks) in
+        let known : w.code (u.pc + 12) ≡ Known (ins Jal 0 0 0 d) = subst (λ p. w.code p ≡ Known (ins Jal 0 0 0 d)) e f.reads.1.0 in
+        let last = jal_walk w y to (over_moved w.code u (writes ticked u.regs) (u.pc + 12) o) known far grain in
+        record {
+          effects = ticked;
+          temps = all_temps ticked refl;
+          walk = walk_on (Quiet w) u before _ 2 2 f.walk (walk_on (Quiet w) before y _ 1 1 one last);
+          fifteen = read_back ticked u.regs 15 long refl;
+          sixteen = read_back ticked u.regs 16 long refl;
+          thirty = read_back ticked u.regs 30 long refl ∙ named refl;
+        }
+    by false named h =
+        let d = distance_between (u.pc + 20) to in
+        let i = ins Bge 0 SPARE 0 (pos 20) in
+        let j = Plain (ins Jal 0 0 0 d) ∷ fired_check ∷ rest in
+        let f = front (Plain i ∷ Constant TEMPORARY a ∷ j) h in
+        let l = writes ticked u.regs in
+        let ws : List (ℕ × ℕ) = (15, now) ∷ (31, shifted now) ∷ (30, a) ∷ [] in
+        let x = moved l (u.pc + 8 + 4) u in
+        let one : Walk (Quiet w) before 1 x = branch_passed w before i over f.reads.0 refl lacks in
+        let ox = over_moved w.code u l (u.pc + 8 + 4) o in
+        let c = sets_const w x 30 a j ox f.reads.1 low (omega (arith, writes_long ticked u.regs, long)) (own_signed w x a j ox f.reads.1 low (read_back ticked u.regs 16 long refl ∙ sign)) in
+        let e : u.pc + 8 + 4 + 8 ≡ u.pc + 20 = omega arith in
+        let y = moved (writes ws u.regs) (u.pc + 20) u in
+        let two : Walk (Quiet w) x 2 y = subst (λ p. Walk (Quiet w) x 2 (moved (writes ws u.regs) p u)) e c.walk in
+        let known : w.code (u.pc + 20) ≡ Known (ins Jal 0 0 0 d) = subst (λ p. w.code p ≡ Known (ins Jal 0 0 0 d)) e f.reads.1.2.0 in
+        let last = jal_walk w y to (over_moved w.code u (writes ws u.regs) (u.pc + 20) o) known far grain in
+        record {
+          effects = ws;
+          temps = all_temps ws refl;
+          walk = walk_on (Quiet w) u before _ 2 4 f.walk (walk_on (Quiet w) before x _ 1 3 one (walk_on (Quiet w) x y _ 2 1 two last));
+          fifteen = read_back ws u.regs 15 long refl;
+          sixteen = read_back ws u.regs 16 long refl;
+          thirty = read_back ws u.regs 30 long refl;
+        }

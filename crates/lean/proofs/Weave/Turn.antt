@@ -12,7 +12,7 @@ use Rattle.weave_core.specs.World.{World, Quiet, Item, Plain, wrapped, State, re
 use Rattle.weave_core.proofs.Lemmas.{addi_value, Sets, sets_on, sets_compute, add_result}
 
 -- what LUI gives
-lui_value : (u : State) (r : ℕ) (z : ℤ) → result Lui (ins Lui r 0 0 z) u ≡ wrapped z
+pub lui_value : (u : State) (r : ℕ) (z : ℤ) → result Lui (ins Lui r 0 0 z) u ≡ wrapped z
 unfolding computed_value
 lui_value u r z = refl
 
@@ -98,14 +98,10 @@ module _ (w : World) (u : State) (rest : List Item) (o : Over w.code u) (long : 
     by true h = record { steps = 0; regs = u.regs; at_least = omega arith; within = omega arith; long = long; same = λ q x y. refl; sign = refl; sets = record { pc = u.pc; walk = walk_none (Quiet w) u; reads = h } }
     by false h = turn_by_row (distance_between a t) h
 
-  -- from one input address to another, whatever the offset
+  -- from one input address to another
   pub turn_row :
-      (a t k : ℕ) → a < 2 ^ 64 → t < 2 ^ 64 → reg u SIGNATURE ≡ (a + k) % 2 ^ 64 → Reads w.form.far w.code w.entry u.pc (turn a t ++ rest)
-      → Signed w u rest (cond (a == t) 0 1) (cost (turn a t)) ((t + k) % 2 ^ 64)
-  turn_row a t k ha ht sign h = subst (Signed w u rest (cond (a == t) 0 1) (cost (turn a t))) (is (a == t) refl) (turn_any a t h) where
-    there : (x : ℕ) → (a + x) % 2 ^ 64 ≡ t → (reg u SIGNATURE + x) % 2 ^ 64 ≡ (t + k) % 2 ^ 64
-    there x e = omega (arith, sign, e)
-
-    is : (b : Bool) → (a == t) ≡ b → cond b (reg u SIGNATURE) ((reg u SIGNATURE + wrapped (distance_between a t)) % 2 ^ 64) ≡ (t + k) % 2 ^ 64
-    is true e = sign ∙ ap (λ y. (y + k) % 2 ^ 64) (eqb-true a t e)
-    is false e = there (wrapped (distance_between a t)) (difference a t ha ht)
+      (a t : ℕ) → a < 2 ^ 64 → t < 2 ^ 64 → reg u SIGNATURE ≡ a → Reads w.form.far w.code w.entry u.pc (turn a t ++ rest) → Signed w u rest (cond (a == t) 0 1) (cost (turn a t)) t
+  turn_row a t ha ht sign h = subst (Signed w u rest (cond (a == t) 0 1) (cost (turn a t))) (is (a == t) refl) (turn_any a t h) where
+    is : (b : Bool) → (a == t) ≡ b → cond b (reg u SIGNATURE) ((reg u SIGNATURE + wrapped (distance_between a t)) % 2 ^ 64) ≡ t
+    is true e = sign ∙ eqb-true a t e
+    is false e = ap (λ y. (y + wrapped (distance_between a t)) % 2 ^ 64) sign ∙ difference a t ha ht

@@ -9,12 +9,12 @@ use Rattle.machine.specs.Step.{target, Ins, Class, class_of, ins, Lui, Addi, And
 use Rattle.qed_model.specs.Weave.Code.{Sequences, NoMarks, AreUnmarked, pieces_of, body_of, block_items, entries_of, code_of}
 use Rattle.machine.specs.Offsets.{distance_between}
 use Rattle.qed_model.specs.Weave.Placed.{sum_of_sizes, rows_from, entry_of, entry_at}
-use Rattle.qed_model.specs.Weave.Sequences.{Form, End, Falls, Stops, Block, body_length, guard, guards_of, original, each_part, compare, visit, sweep, before_end, links, zero_from, stub, ORIGINALS, DISTANCE, CURSOR, SIGNATURE, TEMPORARY}
+use Rattle.qed_model.specs.Weave.Sequences.{Form, End, Falls, Stops, Block, body_length, guard, original, each_part, check_sign, compare, visit, sweep, before_end, links, zero_from, stub, ORIGINALS, DISTANCE, CURSOR, SIGNATURE, TEMPORARY}
 use Rattle.qed_model.specs.Weave.Forms.{mirror_of}
-use Rattle.qed_model.specs.Weave.Lean.{is_short, turn_by, turn, look_up, first_word, done, check, call_at, check_sign, tick, enter, goes, leave, leave_as, begin}
-use Rattle.qed_model.specs.Weave.LeanCode.{Lean, worded, fall_words}
+use Rattle.qed_model.specs.Weave.Lean.{is_short, turn_by, turn, called, look_up, look_again, first_word, done, check, call_at, tick, enter, goes, check_way, opposite, guard_value, mirrored_store, leave, leave_as, begin}
+use Rattle.qed_model.specs.Weave.LeanCode.{Lean, is_store, store_part, both_parts, parts_with, worded, fall_words}
 use Rattle.qed_model.proofs.Lemmas.{size-append}
-use Rattle.weave_core.proofs.Lemmas.{unmarked_of, unmarked_cond, unmarked_guard, unmarked_guards, unmarked_original, unmarked_each, unmarked_visit, unmarked_sweep, unmarked_links, unmarked_zero, unmarked_append, rows_behind}
+use Rattle.weave_core.proofs.Lemmas.{unmarked_of, unmarked_cond, unmarked_guard, unmarked_original, unmarked_each, unmarked_visit, unmarked_sweep, unmarked_links, unmarked_zero, unmarked_append, rows_behind}
 
 unmarked_turn : (a t : ℕ) → NoMarks (turn a t)
 unmarked_turn a t = unmarked_cond (a == t) [] (turn_by (distance_between a t)) tt (by (distance_between a t)) where
@@ -30,36 +30,59 @@ unmarked_fall leader t = unmarked_cond (leader t) [] (Go t ∷ []) tt tt
 unmarked_before : (form : Form) → NoMarks (before_end form)
 unmarked_before form = unmarked_cond form.sweep (sweep form.spans ++ compare) [] (unmarked_append (sweep form.spans) compare (unmarked_sweep form.spans) tt) tt
 
-unmarked_check : (base call every round : ℕ) (spans : List (ℕ × ℕ)) → NoMarks (check base call every round spans)
-unmarked_check base call every round spans = unmarked_append (visit round spans) (done (first_word base spans) every ++ look_up) (unmarked_visit round spans) tt
+unmarked_check : (base d every round : ℕ) (spans : List (ℕ × ℕ)) → NoMarks (check base d every round spans)
+unmarked_check base d every round spans = unmarked_append (visit round spans) (done (first_word base spans) every ++ (look_up SIGNATURE ++ look_again d)) (unmarked_visit round spans) tt
+
+unmarked_tick : (land : Bool) (a most : ℕ) (d : ℤ) → NoMarks (tick land a most d)
+unmarked_tick true a most d = tt
+unmarked_tick false a most d = tt
 
 unmarked_begin : (d a : ℕ) → NoMarks (begin d a)
 unmarked_begin d a =
-    let last = Plain (ins Lui DISTANCE 0 0 (pos d)) ∷ Constant SIGNATURE a ∷ Plain (ins Addi CURSOR 0 0 (neg_ℤ (pos 1))) ∷ Go a ∷ [] in
+    let last = Plain (ins Lui DISTANCE 0 0 (pos d)) ∷ Constant SIGNATURE a ∷ Plain (ins Addi CURSOR 0 0 (pos 2047)) ∷ Go a ∷ [] in
     unmarked_append (zero_from 1 ORIGINALS) (zero_from 17 ORIGINALS ++ last) (unmarked_zero ORIGINALS 1) (unmarked_append (zero_from 17 ORIGINALS) last (unmarked_zero ORIGINALS 17) tt)
 
-module _ (before : List Item) (fall : ℕ → List Item) (no_before : NoMarks before) (no_fall : (t : ℕ) → NoMarks (fall t)) where
-  unmarked_leave_as : (c : Class) (i : Ins) (a at : ℕ) → NoMarks (leave_as before fall c i a at)
+-- ---- pieces
+unmarked_store : (i : Ins) → NoMarks (store_part i)
+unmarked_store i = unmarked_append (guard_value i) (Plain i ∷ mirrored_store i ∷ []) (unmarked_cond (i.rs2 == i.rs1) [] (guard i.rs2) tt (unmarked_guard i.rs2)) tt
+
+unmarked_both : (diverse : Bool) (is : List Ins) (at : ℕ) → NoMarks (both_parts diverse is at)
+unmarked_both diverse is at = unmarked_append (each_part original is at) (each_part (mirror_of diverse) is at) (unmarked_each original unmarked_original is at) (unmarked_each (mirror_of diverse) (unmarked_of diverse) is at)
+
+unmarked_parts : (diverse : Bool) (run : List Ins) (at : ℕ) (is : List Ins) → NoMarks (parts_with diverse run at is)
+unmarked_parts diverse run at [] = unmarked_both diverse run at
+unmarked_parts diverse run at (i ∷ is) =
+    let next = at + 4 * length run + 4 in
+    let rest = parts_with diverse [] next is in
+    unmarked_cond (is_store (class_of i.kind)) (both_parts diverse run at ++ (store_part i ++ rest)) (parts_with diverse (run ++ (i ∷ [])) at is)
+    (unmarked_append (both_parts diverse run at) (store_part i ++ rest) (unmarked_both diverse run at) (unmarked_append (store_part i) rest (unmarked_store i) (unmarked_parts diverse [] next is)))
+    (unmarked_parts diverse (run ++ (i ∷ [])) at is)
+
+-- ---- leaves
+module _ (d : ℕ) (before : List Item) (fall : ℕ → List Item) (no_before : NoMarks before) (no_fall : (t : ℕ) → NoMarks (fall t)) where
+  unmarked_leave_as : (c : Class) (i : Ins) (a at : ℕ) → NoMarks (leave_as d before fall c i a at)
   unmarked_leave_as class.End i a at = unmarked_append before (Plain i ∷ []) no_before tt
   unmarked_leave_as class.Jump i a at = unmarked_append (links i at) (goes a (target i at)) (unmarked_links i at) (unmarked_goes a (target i at))
   unmarked_leave_as class.Branch i a at =
       let n = (at + 4) % 2 ^ 64 in
-      let ways = goes a (target i at) ++ (turn a n ++ fall n) in
-      unmarked_append (guards_of i) (Plain _ ∷ ways) (unmarked_guards i) (unmarked_append (goes a (target i at)) (turn a n ++ fall n) (unmarked_goes a (target i at)) (unmarked_append (turn a n) (fall n) (unmarked_turn a n) (no_fall n)))
+      unmarked_append (goes a (target i at)) (check_way (opposite i.kind) i ++ (turn a n ++ fall n)) (unmarked_goes a (target i at)) (unmarked_append (turn a n) (fall n) (unmarked_turn a n) (no_fall n))
   unmarked_leave_as class.JumpReg i a at =
-      unmarked_append (guard i.rs1) (Plain (ins Addi TEMPORARY i.rs1 0 i.imm) ∷ Plain (ins Andi TEMPORARY TEMPORARY 0 (neg_ℤ (pos 2))) ∷ (links i at ++ look_up)) (unmarked_guard i.rs1) (unmarked_append (links i at) look_up (unmarked_links i at) tt)
+      let last = look_up TEMPORARY ++ look_again d in
+      unmarked_append (guard i.rs1) (Plain (ins Addi TEMPORARY i.rs1 0 i.imm) ∷ Plain (ins Andi TEMPORARY TEMPORARY 0 (neg_ℤ (pos 2))) ∷ (called ++ (links i at ++ last))) (unmarked_guard i.rs1) (unmarked_append (links i at) last (unmarked_links i at) tt)
   unmarked_leave_as _ i a at = tt
 
-  unmarked_leave : (e : End) (a at : ℕ) → NoMarks (leave before fall e a at)
+  unmarked_leave : (e : End) (a at : ℕ) → NoMarks (leave d before fall e a at)
   unmarked_leave Falls a at = unmarked_append (turn a at) (fall at) (unmarked_turn a at) (no_fall at)
   unmarked_leave (Stops i) a at = unmarked_leave_as (class_of i.kind) i a at
 
 pub unmarked_worded : (form : Form) (base : ℕ) (entry : ℕ → ℕ) (l : Lean) (leader : ℕ → Bool) → AreUnmarked (worded form base entry l leader)
 unmarked_worded form base entry l leader = record {
-  first = λ d a. unmarked_append (begin d a) (check base (call_at l.land) l.every form.round form.spans) (unmarked_begin d a) (unmarked_check base (call_at l.land) l.every form.round form.spans);
-  enter = λ a. unmarked_append (cond l.land (check_sign a) []) (cond (l.ticks a) (tick (l.most a) (distance_between (entry a + call_at l.land) l.check)) []) (unmarked_cond l.land (check_sign a) [] tt tt) (unmarked_cond (l.ticks a) (tick (l.most a) (distance_between (entry a + call_at l.land) l.check)) [] tt tt);
-  piece = λ is at. unmarked_append (each_part original is at) (each_part (mirror_of l.diverse) is at) (unmarked_each original unmarked_original is at) (unmarked_each (mirror_of l.diverse) (unmarked_of l.diverse) is at);
-  leave = λ e at. unmarked_leave (before_end form) (fall_words leader) (unmarked_before form) (unmarked_fall leader) e (l.start_of e at) at;
+  first = λ d a. unmarked_append (begin d a) (check base d l.every form.round form.spans) (unmarked_begin d a) (unmarked_check base d l.every form.round form.spans);
+  enter = λ a.
+      let t = tick l.land a (l.most a) (distance_between (entry a + call_at l.land) l.check) in
+      unmarked_append (cond l.land (check_sign a) []) (cond (l.ticks a) t []) (unmarked_cond l.land (check_sign a) [] tt tt) (unmarked_cond (l.ticks a) t [] (unmarked_tick l.land a (l.most a) (distance_between (entry a + call_at l.land) l.check)) tt);
+  piece = λ is at. unmarked_parts l.diverse [] at is;
+  leave = λ e at. unmarked_leave l.distance (before_end form) (fall_words leader) (unmarked_before form) (unmarked_fall leader) e (l.start_of e at) at;
 }
 
 -- ---- where the entries stand
@@ -81,9 +104,9 @@ module _ (form : Form) (base : ℕ) (l : Lean) (leader : ℕ → Bool) (x y : �
   behind_size : (b : Block) → sum_of_sizes false (behind x b) ≡ sum_of_sizes false (behind y b)
   behind_size b = by l.land (l.ticks b.start) where
     by : (land ticks : Bool) → sum_of_sizes false (enter land ticks b.start (l.most b.start) (distance_between (x b.start + call_at land) l.check) ++ body_of (s x) b.body b.end b.start) ≡ sum_of_sizes false (enter land ticks b.start (l.most b.start) (distance_between (y b.start + call_at land) l.check) ++ body_of (s y) b.body b.end b.start)
-    by true true = ap (λ k. 8 + (4 + (4 + (4 + (4 + (4 + (4 + (4 + (4 + sum_of_sizes false k))))))))) (body_same b)
-    by true false = ap (λ k. 8 + (4 + (4 + (4 + (4 + sum_of_sizes false k))))) (body_same b)
-    by false true = ap (λ k. 4 + (4 + (4 + (4 + sum_of_sizes false k)))) (body_same b)
+    by true true = ap (λ k. 8 + (4 + (4 + (4 + (4 + (4 + (4 + (4 + sum_of_sizes false k)))))))) (body_same b)
+    by true false = ap (λ k. 8 + (4 + (4 + sum_of_sizes false k))) (body_same b)
+    by false true = ap (λ k. 4 + (4 + (4 + (8 + (4 + (4 + sum_of_sizes false k)))))) (body_same b)
     by false false = ap (sum_of_sizes false) (body_same b)
 
   block_size : (b : Block) → sum_of_sizes false (block_items (s x) b) ≡ sum_of_sizes false (block_items (s y) b)

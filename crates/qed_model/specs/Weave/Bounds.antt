@@ -1,6 +1,6 @@
 -- The bounds of the new code, in steps, by what they depend on (this project's profile).
 use Rattle.std.specs.Prelude.{ℕ, zero, suc, ◌+◌, ◌-◌, ◌*◌, ◌/◌, Bool, cond, Option, Some, None}
-use Rattle.qed_model.specs.declared.steps.TheConstants.{INSTRUCTION_STEPS, DIVERSE_STEPS, TICK_STEPS, LANDING_STEPS}
+use Rattle.qed_model.specs.declared.steps.TheConstants.{INSTRUCTION_STEPS, DIVERSE_STEPS}
 use Rattle.qed_model.specs.declared.bounds.Shape.{Shape}
 use Rattle.qed_model.specs.declared.bounds.Bounds.{Bounds}
 
@@ -35,10 +35,6 @@ word_bound (suc n) round start piece = Some (start + ((suc n + round - 1) / roun
 -- the most steps of an instruction in both its parts; mirror parts of other kinds have more
 abbrev pub cost_of : Bool → ℕ
 cost_of diverse = cond diverse DIVERSE_STEPS INSTRUCTION_STEPS
-
--- the steps of an entry of the lean form where its tick passes: those of the tick, and with the option `land` those of the test of the signature
-abbrev pub entry_steps : Bool → ℕ
-entry_steps land = cond land LANDING_STEPS TICK_STEPS
 
 -- ---- over a shape
 abbrev pub start_steps : Shape → ℕ

@@ -1,29 +1,42 @@
 -- The bounds of the lean form, in steps (this project's profile).
-use Rattle.std.specs.Prelude.{ℕ, zero, suc, ◌+◌, ◌*◌, Bool, Option, Some, None, false}
+use Rattle.std.specs.Prelude.{ℕ, zero, suc, ◌+◌, ◌*◌, Bool, cond, Option, Some, None, false}
 use Rattle.elf_types.specs.declared.file.ElfFile.{ElfFile}
 use Rattle.qed_model.specs.declared.bounds.Bounds.{Bounds}
 use Rattle.qed_model.specs.declared.bounds.Shape.{Shape}
 use Rattle.tests.specs.declared.options.Options.{Options}
-use Rattle.qed_model.specs.Weave.Bounds.{visit_bound, end_bound, cost_of, entry_steps}
+use Rattle.qed_model.specs.declared.steps.TheConstants.{DIVERSE_STEPS, STORE_STEPS, TICK_STEPS, LANDING_STEPS, CALL_STEPS, LEAN_LEAVE_STEPS}
+use Rattle.qed_model.specs.Weave.Bounds.{visit_bound, end_bound}
 use Rattle.qed_model.specs.Weave.Forms.{shape_of}
 use Rattle.qed_model.specs.Weave.Pieces.{piece_count}
 
--- the most steps of the check, with the look-up behind it, by how many data words and ranges there are, and the words of a round
+-- the most steps of an instruction in both its parts: of a store, or with mirror parts of other kinds
+abbrev pub cost_of : Bool → ℕ
+cost_of diverse = cond diverse DIVERSE_STEPS STORE_STEPS
+
+-- the steps of an entry whose tick passes: those of the tick, and with the option `land` those of the test of the signature
+abbrev pub entry_steps : Bool → ℕ
+entry_steps land = cond land LANDING_STEPS TICK_STEPS
+
+-- what it takes besides to go to the check: the address, which with `land` x30 has already, and the jump
+abbrev pub call_steps : Bool → ℕ
+call_steps land = cond land 1 CALL_STEPS
+
+-- the most steps of the check, with the look-ups behind it, by how many data words and ranges there are, and the words of a round
 abbrev pub check_bound : ℕ → ℕ → ℕ → ℕ
-check_bound words ranges round = 44 + visit_bound words ranges * round
+check_bound words ranges round = 36 + visit_bound words ranges * round
 
--- the most steps from check to check: those of the check, of the blocks between, and of the entry that calls it again
+-- the most steps from check to check: those of the check, of the blocks between, and of the entry that goes to it again
 abbrev pub period : Bool → ℕ → ℕ → ℕ
-period land check every = check + (every + entry_steps land)
+period land check every = check + (every + entry_steps land + call_steps land)
 
--- a changed register: what runs first, the end with its sweep, a period, and the comparison
+-- a changed register: what runs first up to the first check, the end with its sweep, a period, and the check up to its comparison
 abbrev pub register_bound : Bool → ℕ → ℕ → ℕ
-register_bound land ends period = 65 + entry_steps land + ends + period
+register_bound land ends period = 53 + entry_steps land + call_steps land + ends + period
 
 -- a changed data word, of `words` of them: as many periods more as there are rounds; none where there is no data word
 abbrev pub word_bound : Bool → ℕ → ℕ → ℕ → ℕ → Option ℕ
 word_bound land zero round ends period = None
-word_bound land (suc n) round ends period = Some (65 + entry_steps land + ends + (piece_count round (suc n) + 1) * period)
+word_bound land (suc n) round ends period = Some (53 + entry_steps land + call_steps land + ends + (piece_count round (suc n) + 1) * period)
 
 -- ---- over a shape, and of a file
 abbrev pub bounds_of : Shape → ℕ → Bounds
@@ -32,7 +45,7 @@ bounds_of s every =
     let check = check_bound s.words s.ranges s.round in
     record {
       start = 31 + ends;
-      piece = 20 + 2 * entry_steps s.land + check + cost_of s.diverse * s.inst_max;
+      piece = LEAN_LEAVE_STEPS + call_steps s.land + 2 * entry_steps s.land + check + cost_of s.diverse * s.inst_max;
       register = register_bound s.land ends (period s.land check every);
       word = word_bound s.land s.words s.round ends (period s.land check every);
     }

@@ -1,32 +1,57 @@
 -- The new code of a test in the lean form: its sequences, the steps that its ticks count, and its items (this project's profile).
-use Rattle.std.specs.Prelude.{ℕ, ◌+◌, ◌-◌, ◌*◌, ◌%◌, ◌^◌, Bool, true, false, cond, ◌==◌, ◌&&◌, ◌||◌, nat_lt, min, max, List, [], ◌∷◌, ◌++◌}
+use Rattle.std.specs.Prelude.{ℕ, ◌+◌, ◌-◌, ◌*◌, ◌%◌, ◌^◌, Bool, true, false, cond, ◌==◌, ◌&&◌, ◌||◌, nat_lt, min, max, List, [], ◌∷◌, ◌++◌, length}
 use Rattle.std.specs.List.{list_any}
 use Rattle.qed_model.specs.declared.steps.TheConstants.{LEAN_LEAVE_STEPS, MOST_OWED}
 use Rattle.rv_isa.specs.declared.class.Class.TheVariants as class
 use Rattle.machine.specs.Step.{target, Class, class_of}
 use Rattle.qed_model.specs.Weave.Blocks.{Options, ElfFile, begins_at}
-use Rattle.qed_model.specs.Weave.Bounds.{cost_of, entry_steps}
+use Rattle.qed_model.specs.Weave.LeanBounds.{cost_of, entry_steps}
 use Rattle.qed_model.specs.Weave.Code.{Sequences, code_of}
+use Rattle.qed_model.specs.declared.steps.TheConstants.{DIVERSE_STEPS}
 use Rattle.qed_model.specs.Weave.Costs.{cost_each, original_cost, spent, mirror_steps}
 use Rattle.qed_model.specs.Weave.Forms.{mirror_of, form_of}
-use Rattle.qed_model.specs.Weave.Lean.{enter, call_at, check, leave, begin, leave_cost}
+use Rattle.qed_model.specs.Weave.Lean.{enter, call_at, check, guard_address, guard_value, mirrored_store, leave, begin, leave_cost}
 use Rattle.tests.specs.Admission.Places.{base_of, image_of, half_of, code_place}
 use Rattle.machine.specs.Offsets.{distance_between}
 use Rattle.qed_model.specs.Weave.Placed.{sum_of_sizes, entry_of}
-use Rattle.qed_model.specs.Weave.Sequences.{Mark, Go, Item, Ins, Form, Block, End, Falls, Stops, body_length, original, each_part, before_end}
+use Rattle.qed_model.specs.Weave.Sequences.{Mark, Plain, Go, Item, Ins, Form, Block, End, Falls, Stops, body_length, original, each_part, before_end}
 
--- what it depends on besides its blocks and the form: what x15 counts from, the most instructions of a piece, whether its mirror parts are of other
--- kinds, whether entries test the signature, the address of the check, which blocks have a tick, the most steps from the entry of a block to the next tick, and
+-- what it depends on besides its blocks and the form: the steps from check to check, the most instructions of a piece, whether its mirror parts are of other
+-- kinds, whether entries test the signature, the distance of the halves, the address of the check, which blocks have a tick, the most steps from the entry of a block to the next tick, and
 -- where a block begins that has such an end at an address
 pub record Lean : Type 0 where
   pub every : ℕ
   pub inst_max : ℕ
   pub diverse : Bool
   pub land : Bool
+  pub distance : ℕ
   pub check : ℕ
   pub ticks : ℕ → Bool
   pub most : ℕ → ℕ
   pub start_of : End → ℕ → ℕ
+
+-- ---- a piece
+abbrev pub is_store : Class → Bool
+is_store class.Store = true
+is_store _ = false
+
+-- a store in both halves, behind the guards of its address and of its value
+abbrev pub store_part : Ins → List Item
+store_part i = guard_address i ++ (guard_value i ++ (Plain i ∷ mirrored_store i ∷ []))
+
+-- instructions without a store from an input address on: all original parts, and all mirror parts
+abbrev pub both_parts : Bool → List Ins → ℕ → List Item
+both_parts diverse is at = each_part original is at ++ each_part (mirror_of diverse) is at
+
+-- some instructions without a store from an input address on, and what is behind them: a store stands in both halves before the next instruction
+abbrev pub parts_with : Bool → List Ins → ℕ → List Ins → List Item
+parts_with diverse run at [] = both_parts diverse run at
+parts_with diverse run at (i ∷ is) =
+    cond (is_store (class_of i.kind)) (both_parts diverse run at ++ (store_part i ++ parts_with diverse [] (at + 4 * length run + 4) is)) (parts_with diverse (run ++ (i ∷ [])) at is)
+
+-- a piece
+abbrev pub piece : Bool → List Ins → ℕ → List Item
+piece diverse is at = parts_with diverse [] at is
 
 -- ---- the sequences
 -- behind a block stands the entry of a leader, or there is no code
@@ -39,8 +64,8 @@ abbrev pub sequences : Form → (ℕ → ℕ) → Lean → (ℕ → List Item) �
 sequences form entry l fall first = record {
   first = first;
   enter = λ a. enter l.land (l.ticks a) a (l.most a) (distance_between (entry a + call_at l.land) l.check);
-  piece = λ is at. each_part original is at ++ each_part (mirror_of l.diverse) is at;
-  leave = λ e at. leave (before_end form) fall e (l.start_of e at) at;
+  piece = piece l.diverse;
+  leave = λ e at. leave l.distance (before_end form) fall e (l.start_of e at) at;
 }
 
 -- what leads behind a block, as words: nothing, where a block stands there
@@ -49,7 +74,7 @@ fall_words leader t = cond (leader t) [] (Go t ∷ [])
 
 -- the sequences as words, for an input that begins at `base`: behind what runs first stands the check
 abbrev pub worded : Form → ℕ → (ℕ → ℕ) → Lean → (ℕ → Bool) → Sequences
-worded form base entry l leader = sequences form entry l (fall_words leader) (λ d a. begin d a ++ check base (call_at l.land) l.every form.round form.spans)
+worded form base entry l leader = sequences form entry l (fall_words leader) (λ d a. begin d a ++ check base d l.every form.round form.spans)
 
 -- ---- the steps of a block
 -- where its end stands
@@ -58,15 +83,19 @@ end_at b = b.start + 4 * body_length b.body
 
 -- of a mirror part
 abbrev pub mirror_steps_of : Bool → Ins → ℕ
-mirror_steps_of diverse i = cond diverse (cost_of true - spent i) (mirror_steps i)
+mirror_steps_of diverse i = cond diverse (DIVERSE_STEPS - spent i) (mirror_steps i)
 
--- of a piece: its original parts and its mirror parts
-abbrev pub piece_steps : Bool → List Ins → ℕ
-piece_steps diverse is = cost_each original_cost is + cost_each (mirror_steps_of diverse) is
+-- of a store in both halves: the guard of its address, that of its value, and both stores
+abbrev pub store_steps : Ins → ℕ
+store_steps i = cond ((i.rs2 == i.rs1) || (i.rs2 == 0)) 5 6
+
+-- of an instruction in both its parts
+abbrev pub both_steps : Bool → Ins → ℕ
+both_steps diverse i = cond (is_store (class_of i.kind)) (store_steps i) (original_cost i + mirror_steps_of diverse i)
 
 abbrev pub body_steps : Bool → List (List Ins) → ℕ
 body_steps diverse [] = 0
-body_steps diverse (p ∷ ps) = piece_steps diverse p + body_steps diverse ps
+body_steps diverse (p ∷ ps) = cost_each (both_steps diverse) p + body_steps diverse ps
 
 -- the most steps of a block: those of its entry, of its pieces, and the most of its leave
 abbrev pub block_steps : Bool → Bool → (ℕ → Bool) → Block → ℕ
@@ -159,13 +188,14 @@ abbrev pub start_at : List Block → End → ℕ → ℕ
 start_at [] e at = 0
 start_at (b ∷ bs) e at = cond (is_alike b.end e && (end_at b == at)) b.start (start_at bs e at)
 
--- of blocks, where the check stands at an address and sets the counter to less `every`, and the test has its entry at another
-abbrev pub lean_in : Options → ℕ → List Block → ℕ → ℕ → Lean
-lean_in o every blocks check entry = record {
+-- of blocks, where the halves are so far apart, the check stands at an address, and the test has its entry at another
+abbrev pub lean_in : Options → ℕ → List Block → ℕ → ℕ → ℕ → Lean
+lean_in o every blocks distance check entry = record {
   every = every;
   inst_max = o.inst_max;
   diverse = o.diverse;
   land = o.land;
+  distance = distance;
   check = check;
   ticks = has_tick (tick_rows (counting_of o entry every blocks) blocks);
   most = most_at (tick_rows (counting_of o entry every blocks) blocks);
@@ -174,7 +204,7 @@ lean_in o every blocks check entry = record {
 
 -- of a file with its blocks
 abbrev pub lean_of : ElfFile → Options → ℕ → List Block → Lean
-lean_of f o every blocks = lean_in o every blocks (code_place o.half (image_of f) + sum_of_sizes false (begin (half_of o.half (image_of f)) f.entry)) f.entry
+lean_of f o every blocks = lean_in o every blocks (half_of o.half (image_of f)) (code_place o.half (image_of f) + sum_of_sizes false (begin (half_of o.half (image_of f)) f.entry)) f.entry
 
 -- ---- the new code
 -- its items, where an input address has its entry

@@ -5,7 +5,7 @@ use Rattle.machine.specs.declared.limits.TheConstants.{MAX_HALF}
 use Rattle.tests.specs.declared.options.Options.{Options}
 use Rattle.tests.specs.declared.options.Entries.TheVariants as entries
 use Rattle.qed_model.specs.declared.steps.TheConstants.{LEAN_LEAVE_STEPS}
-use Rattle.qed_model.specs.Weave.Bounds.{cost_of, entry_steps}
+use Rattle.qed_model.specs.Weave.LeanBounds.{cost_of, entry_steps}
 
 -- options with which files are transformed
 pub record AreSoundOptions (o : Options) : Type 0 where
@@ -16,4 +16,4 @@ pub record AreSoundOptions (o : Options) : Type 0 where
   pub few_visits : o.round ≤ 1024
   pub half : IfSome o.half (λ h. (h % PAGE ≡ 0) × (PAGE ≤ h) × (h ≤ MAX_HALF))
   -- in the lean form a block has fewer steps than there are from check to check: those of its entry, of one piece, and of its leave
-  pub lean : IfSome o.lean (λ every. (o.entries ≡ entries.Reached) × (every ≤ 2048) × (entry_steps o.land + LEAN_LEAVE_STEPS + cost_of o.diverse * o.inst_max < every))
+  pub lean : IfSome o.lean (λ every. (o.entries ≡ entries.Reached) × (every ≤ 2047) × (entry_steps o.land + LEAN_LEAVE_STEPS + cost_of o.diverse * o.inst_max < every))

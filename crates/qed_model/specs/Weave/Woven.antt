@@ -80,7 +80,7 @@ code_as (Some every) f o blocks = lean f o every blocks
 -- within how many steps an entry that is reached with the signature of another fires, if it tests the signature
 abbrev pub landing : Option ℕ → Bool → Option ℕ
 landing None land = Some 4
-landing (Some every) land = cond land (Some 6) None
+landing (Some every) land = cond land (Some 4) None
 
 abbrev pub new_code : ElfFile → Options → List Block → NewCode
 new_code f o blocks = code_as o.lean f o blocks

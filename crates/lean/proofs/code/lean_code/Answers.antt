@@ -1,8 +1,11 @@
-use Rattle.std.proofs.Common.{rules, ◌∙◌, map}
+use Rattle.std.proofs.Common.{rules, ◌∙◌, ap, map}
 use Rattle.block_split.specs.Listed.{block_of}
 use Rattle.weave.specs.Form.{code_to_stub}
 use Rattle.elf_types.specs.declared.file.ElfFile.{ElfFile}
-use Rattle.lean.specs.Code.{IsLeanCut, HasCause}
+use Rattle.qed_model.specs.Weave.Placed.{leads_to}
+use Rattle.qed_model.specs.Weave.Woven.{lean}
+use Rattle.weave.specs.Code.{HasCause}
+use Rattle.lean.specs.Code.{IsLeanCut}
 use Rattle.lean.specs.Form.{code_of}
 use Rattle.lean.proofs.Forms.{fit, half_small, ascend, low, cause, come, linked_is}
 use Rattle.lean.proofs.Owned.{owned}
@@ -51,11 +54,12 @@ returns-clause-code c = λ f cut.
     linked_is f c.args.options.now c.args.every c.args.test.now c.args.blocks.now cut c.in_ok-weaver.weaver c.in_ok-weaver.ensures.code c.in_ok-count.count c.in_ok-count.ensures.form c.in_ok-count.ensures.counted
     c.in_ok-layout.layout c.in_ok-layout.ensures.form c.in_ok-layout.ensures.base c.in_ok-layout.ensures.limit c.in_ok-layout.ensures.laid c.in_ok-entries.entries.items c.last.result (c.in_ok-entries.ensures.items ∙ c.entries.ensures) c.last.ensures
     c.place.new.weaver (c.place.ensures.code)
-    c.in_ok-linked.linked c.in_ok-linked.ensures
+    c.in_ok-linked.linked c.in_ok-linked.ensures (c.place.ensures.blocks ∙ c.in_ok-weaver.ensures.blocks) (c.place.ensures.every ∙ c.in_ok-weaver.ensures.every)
+    (c.place.ensures.parts ∙ ap (λ parts. parts (leads_to c.in_ok-entries.entries.items c.last.result)) c.in_ok-weaver.ensures.parts)
 
 pub returns-in_err-layout-clause-cause : goal.returns-in_err-layout-clause-cause
 returns-in_err-layout-clause-cause c =
     let e = c.in_err-layout.field-0.0 in
-    let has : (f : ElfFile) → IsLeanCut f c.args.options.now c.args.every c.args.test.now c.args.blocks.now → HasCause f c.args.options.now c.args.every c.args.blocks.now e = λ f cut.
+    let has : (f : ElfFile) → IsLeanCut f c.args.options.now c.args.every c.args.test.now c.args.blocks.now → HasCause (lean f c.args.options.now c.args.every (map block_of c.args.blocks.now)) e = λ f cut.
     cause f c.args.options.now c.args.every c.args.test.now c.args.blocks.now cut c.in_ok-weaver.weaver c.in_ok-weaver.ensures.code c.in_ok-count.count c.in_ok-count.ensures.form c.in_ok-count.ensures.counted e c.in_err-layout.ensures.cause in
     search rules

@@ -16,7 +16,7 @@ pub code_in-requires-clause-links : goal.code_in-requires-clause-links
 code_in-requires-clause-links c = let r = c.requires in links r.0 c.args.options.now c.args.test.now c.args.blocks.now r.1 c.is_far-far.result (c.is_far-far.ensures r.0 r.1)
 
 pub returns-clause-code : goal.returns-clause-code
-returns-clause-code c = code_result c.args.options.now c.args.test.now c.args.blocks.now c.is_far-far.result c.is_far-far.ensures c.code_in.result c.code_in.ensures.form c.code_in.ensures.fits c.code_in.ensures.linked
+returns-clause-code c = code_result c.args.options.now c.args.test.now c.args.blocks.now c.is_far-far.result c.is_far-far.ensures c.code_in.result c.code_in.ensures.weaver c.code_in.ensures.fits c.code_in.ensures.linked
 
 pub returns-clause-cause : goal.returns-clause-cause
 returns-clause-cause c = code_error c.args.options.now c.args.test.now c.args.blocks.now c.is_far-far.result c.is_far-far.ensures c.code_in.result c.code_in.ensures.cause

@@ -4,7 +4,7 @@ use Rattle.tests.specs.Admission.DataRanges.{range_of, data_ranges, word_count}
 use Rattle.tests.specs.Admission.Places.{image_of}
 use Rattle.output_file.proofs.Counting.{test_spaced}
 use Rattle.transform.proofs.TestFacts.{same_shape}
-use Rattle.transform.proofs.made.shape_of.Goals as goal
+use Rattle.transform.proofs.code.shape_of.Goals as goal
 
 pub returns : goal.returns
 returns c =

@@ -9,7 +9,7 @@ use Rattle.weave_core.proofs.Lemmas.{guarded_original}
 use Rattle.weave.specs.Handed.{Comes, Handed}
 use Rattle.weave.proofs.Taking.{begun, comes, on, last, ended}
 use Rattle.weave.proofs.Parts.{each_alike}
-use Rattle.lean.proofs.weaver.LeanWeaverWeaving.piece.Goals as goal
+use Rattle.weave.proofs.each.weave_halves.Goals as goal
 
 -- the originals of the passes are those of the sequences
 alike : (is : List Ins) (at : ℕ) → each_parts role.Original (λ i a. guards (used i) ++ bare i a) is at ≡ each_parts role.Original original is at
@@ -20,13 +20,13 @@ weave_each-requires-clause-come g c =
     let is = c.args.list.now in
     let at = c.args.at in
     subst (Comes (g.S.ItemSink.took c.args.to.now.sink) c.args.to.now.items) (sym (alike is at))
-    (comes (each_parts role.Original original is at) (each_parts role.Mirror (mirror_of c.args.self.now.diverse) is at) (begun _ _ _ c.requires.come))
+    (comes (each_parts role.Original original is at) (each_parts role.Mirror (mirror_of c.args.mirrors.now.diverse) is at) (begun _ _ _ c.requires.come))
 
 pub weave_each-requires-2-clause-come : goal.weave_each-requires-2-clause-come
 weave_each-requires-2-clause-come g c =
     let is = c.args.list.now in
     let at = c.args.at in
-    let mirrors = each_parts role.Mirror (mirror_of c.args.self.now.diverse) is at in
+    let mirrors = each_parts role.Mirror (mirror_of c.args.mirrors.now.diverse) is at in
     comes mirrors [] (last mirrors (on (each_parts role.Original original is at) mirrors (begun _ _ _ c.requires.come)
     (subst (Handed (g.S.ItemSink.took c.args.to.now.sink) (g.S.ItemSink.took c.weave_each.new.to.sink) c.weave_each.new.to.items) (alike is at) c.in_ok-weave_each.ensures)))
 
@@ -34,6 +34,6 @@ pub returns : goal.returns
 returns g c =
     let is = c.args.list.now in
     let at = c.args.at in
-    let mirrors = each_parts role.Mirror (mirror_of c.args.self.now.diverse) is at in
+    let mirrors = each_parts role.Mirror (mirror_of c.args.mirrors.now.diverse) is at in
     ended _ _ _ _ (on mirrors [] (last mirrors (on (each_parts role.Original original is at) mirrors (begun _ _ _ c.requires.come)
     (subst (Handed (g.S.ItemSink.took c.args.to.now.sink) (g.S.ItemSink.took c.weave_each.new.to.sink) c.weave_each.new.to.items) (alike is at) c.in_ok-weave_each.ensures))) c.in_ok-weave_each-2.ensures)
