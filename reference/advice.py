@@ -12,9 +12,10 @@ from calls import MOST_FILE, Shelf, answer, near_text, told
 from elf import File, read_elf
 from machine import Memory, loads_of
 from texts import MOST_OF_FILE_NAME, Stopped, encoded, printable
-from weave import bounds
+from weave import DISTANCE, SIGNATURE, SPARE, T, bounds
 from words import COMMANDS, OTHER_NAMES, Order, change_of, order_of
 
+LAST_ORIGINAL, PAIRS = 13, {0, *range(17, 30)}
 ABOVE_X13 = "a4 a5 a6 a7 s2 s3 s4 s5 s6 s7 s8 s9 s10 s11 t3 t4 t5 t6".split()
 SENTENCES = dict(line.split(" = ", 1) for line in told("sentences").splitlines())
 
@@ -161,25 +162,42 @@ def _unread(order: Order, shelf: Shelf) -> str:
     return ""
 
 
+def _compared(before: str, first: int, second: int) -> Optional[str]:
+    """What a check of an output compares that tests no register of the test, by its registers and the word before it."""
+    if first <= LAST_ORIGINAL and second == SPARE:
+        return f"x{first} and its pair, by way of x31, differ"
+    if {first, second} <= PAIRS:
+        return f"x{first} and x{second} decide otherwise than the originals of the branch"
+    if (first, second) == (DISTANCE, T):
+        return "x14 is not the distance of the halves"
+    if (first, second) == (SIGNATURE, T):
+        if before.startswith("andi "):
+            return "the jump by register leads elsewhere by the original than by its pair"
+        return ("the signature in x16 is not that of this entry" if before.startswith("addi ")
+                else "the check was called from another block than that of the signature")
+    if (first, second) == (T, SPARE):
+        return ("two look-ups of the entry of the signature differ" if before.startswith("lui ")
+                else "the data word at the address in x15 and its duplicate differ")
+    return None
+
+
 def _fired(file: File, ebreak: int, printed: str) -> str:
     """What differed where a check fired, by the registers, the comparison before the EBREAK, and the word before that."""
     memory = Memory(loads_of(file))
     before, word = (memory.load((ebreak - far) % 2**64, 4) for far in (8, 4))
-    found = re.fullmatch(r"beq x(\d+), x(\d+), -?\d+", "" if word is None else isa.text_of(word))
-    if not found:
-        return ""
-    first, second = found[1], found[2]
-    values = {"0": "0x0000000000000000", **dict(re.findall(r"^x(\d+) (0x[0-9a-f]{16})$", printed, re.MULTILINE))}
-    if values[first] == values[second]:
-        return f"qed: x{first} and x{second} are equal at the ebreak behind their check: a jump may have led there\n"
-    is_call = before is not None and isa.text_of(before).startswith("addi ")
-    told_of = {"16": "the signature in x16 is not that of this entry",
-               "31": "the signature in x16 is not that of this block",
-               "30": "the check was not called by the block at the address in x15" if is_call
-                     else "the data word at the address in x15 and its duplicate differ"}
+    check = None if word is None else isa.decode(word)
     is_output = any(section.name == b".qed.map" for section in file.sections)
-    differ = f"x{first} and x{second} differ"
-    return f"qed: a check fired: {told_of.get(first, differ) if is_output else differ}\n"
+    if check is None or check.group != "branch":
+        return ""
+    first, second = check.rs1, check.rs2
+    if check.name != "beq" and not (is_output and {first, second} <= PAIRS):
+        return ""
+    values = [0] + [int(value, 16) for value in re.findall(r"^x\d+ (0x[0-9a-f]{16})$", printed, re.MULTILINE)]
+    if isa.TAKEN[check.name](values[first], values[second]):
+        found = "are equal at the ebreak behind their check" if check.name == "beq" else "pass the check before the ebreak"
+        return f"qed: x{first} and x{second} {found}: a jump may have led there\n"
+    sentence = _compared("" if before is None else isa.text_of(before), first, second) if is_output else None
+    return f"qed: a check fired: {sentence or f'x{first} and x{second} differ'}\n"
 
 
 def _run(order: Order, printed: str, shelf: Shelf) -> str:

@@ -133,15 +133,21 @@ def symbol_line(file: File, role: Role) -> str:
     return f"symbol {near}\n" if near else ""
 
 
+FIRED_LINES = {
+    "leave": "the originals and the pairs lead to different places",
+    "check": "the check was called from another block than that of the signature",
+    "look-up": "two look-ups of the entry of the signature differ",
+    "visit": "a data word and its duplicate differ, its address is in x15",
+    "sweep": "a data word and its duplicate differ, its address is in x15"}
+
+
 def fired_line(role: Role) -> str:
     """What differed where the EBREAK of a role is reached ("Printed lines", explain)."""
-    if role.register:
+    if role.register is not None:
         return f"fired: x{role.register} and x{pair(role.register)} differ\n"
     if role.name in ("entry", "signature"):
         return f"fired: the signature is not that of {hex16(role.addresses[0])}\n"
-    if role.name in ("check", "tick"):
-        return "fired: the check was called from another block than that of the signature\n" if role.name == "check" else ""
-    return "fired: a data word and its duplicate differ, its address is in x15\n"
+    return f"fired: {FIRED_LINES[role.name]}\n" if role.name in FIRED_LINES else ""
 
 
 def explained(done: Transformed, options: Options, at: Optional[int]) -> str:

@@ -388,7 +388,7 @@ def draw_options(rng: random.Random, many: float = 5) -> List[str]:
     if chance(rng, 30):
         words += ["--entries", rng.choice(["reached", "reached", "reached", "all"])]
     if chance(rng, 25):
-        words += ["--lean"] + (["--every", str(rng.choice([30, 100, 700, 1100, 2048]))] if chance(rng, 50) else [])
+        words += ["--lean"] + (["--every", str(rng.choice([30, 100, 900, 2047, 2048]))] if chance(rng, 50) else [])
         words += ["--land"] if chance(rng, 50) else []
     return words + [flag for flag in ("--sweep", "--diverse") if chance(rng, 25)]
 

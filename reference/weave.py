@@ -18,7 +18,7 @@ from machine import WORD
 from texts import Exceeded, hex16
 
 MOST_NEAR_CODE = 1 << 20
-T, CURSOR, SIGNATURE = 30, 15, 16
+DISTANCE, CURSOR, SIGNATURE, T, SPARE = 14, 15, 16, 30, 31
 
 
 class Const(NamedTuple):
@@ -40,12 +40,12 @@ class Role(NamedTuple):
     """What words are for: a name, the register that is compared, and the input addresses or else the place that are told ("Roles")."""
     name: str
     addresses: Tuple[int, ...] = ()
-    register: int = 0
+    register: Optional[int] = None
     place: str = ""
 
     def text(self) -> str:
         """The role in a line."""
-        register = f" x{self.register}" if self.register else ""
+        register = "" if self.register is None else f" x{self.register}"
         place = "..".join(map(hex16, self.addresses)) or self.place
         return f"{self.name}{register} {place}".rstrip()
 

@@ -7,6 +7,7 @@ from dataclasses import dataclass, field
 from typing import Callable, Dict, List, Optional, Tuple, Union
 
 from admission import Options
+from lean import MOST_COUNT, few_steps
 from machine import Change, Place
 from texts import Usage, number_of
 
@@ -44,7 +45,7 @@ OTHER_NAMES = {"--help": "help", "-h": "help", "--version": "version"}
 
 RANGES = {"inst-min": (1, 1024), "inst-max": (1, 1024), "round": (1, 1024), "half": (4096, 512 << 20),
           "steps": (0, 10 ** 12), "seed": (0, (1 << 64) - 1), "count": (1, 10000), "changes": (1, 16),
-          "size": (1, 60000), "from": (0, 1000000), "to": (1, 1000000), "at": (0, (1 << 64) - 1), "every": (1, 2048)}
+          "size": (1, 60000), "from": (0, 1000000), "to": (1, 1000000), "at": (0, (1 << 64) - 1), "every": (1, MOST_COUNT)}
 
 Value = Union[int, List[Change], Tuple[int, int], List[int], str]
 
@@ -162,7 +163,7 @@ def _lean(options: Options) -> None:
     """The sixth group of reasons, of the lean form."""
     if options.entries == "all":
         raise Usage("all entries")
-    most = (26 if options.land else 21) + (8 if options.diverse else 5) * options.inst_max
+    most = few_steps(options)
     if options.lean <= most:
         raise Usage(f"few steps {most}")
 
