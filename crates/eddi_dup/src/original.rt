@@ -30,7 +30,7 @@ impl Pass for Original {
 
     ghost needs = { λ p i at w v. Runs w i at v.original };
 
-    ghost gives = { λ p i at w. Does step same 1 };
+    ghost gives = { λ p i at w. Does w step same 1 };
 
     ghost leaves = { λ p i at w v n z. ⊥ };
 

@@ -49,7 +49,7 @@ impl Pass for Entry {
 
     ghost needs = { λ p i at w. Enters w at };
 
-    ghost gives = { λ p i at w. Does same same 3 };
+    ghost gives = { λ p i at w. Does w same same 3 };
 
     ghost leaves = { λ p i at w v n z. ⊥ };
 

@@ -54,11 +54,11 @@ impl<A: Pass> Pass for Guarded<A> {
 
     ghost cost = { λ g i. length (used i) + A.cost g.pass i };
 
-    ghost needs = { λ g i at w. NeedsBoth (λ v. AllSame (used i) v.original v.shadow) (Does same same 0) (A.needs g.pass i at w) };
+    ghost needs = { λ g i at w. NeedsBoth (λ v. AllSame (used i) v.original v.shadow) (Does w same same 0) (A.needs g.pass i at w) };
 
-    ghost gives = { λ g i at w v. Chain v (length (used i)) (Does same same 0 v) (A.gives g.pass i at w) };
+    ghost gives = { λ g i at w v. Chain v (length (used i)) (Does w same same 0 v) (A.gives g.pass i at w) };
 
-    ghost leaves = { λ g i at w v. Chain v (length (used i)) (Does same same 0 v) (A.leaves g.pass i at w) };
+    ghost leaves = { λ g i at w v. Chain v (length (used i)) (Does w same same 0 v) (A.leaves g.pass i at w) };
 
     #[tactic(auto, using(passes::specs::Emitted::part_first, passes::specs::Emitted::part_second))]
     fn emit(&self, ins: &Ins, at: u64, out: &mut Emit) -> Result<(), AllocError> {

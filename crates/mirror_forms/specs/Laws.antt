@@ -27,7 +27,7 @@ pub use Rattle.eddi_dup.specs.Laws.{any}
 abbrev pub mirror_cost : Bool → Ins → ℕ
 mirror_cost other i = cond other (DIVERSE_STEPS - spent i) 2
 
-pub quiet_mirror : (other : Bool) (i : Ins) (at : ℕ) → FitsPiece i → Quiet any (mirror_of other i at) (λ w v. Runs w i at v.shadow) (λ w. Does same step 0) (λ w v n z. ⊥) (mirror_cost other i)
+pub quiet_mirror : (other : Bool) (i : Ins) (at : ℕ) → FitsPiece i → Quiet any (mirror_of other i at) (λ w v. Runs w i at v.shadow) (λ w. Does w same step 0) (λ w v n z. ⊥) (mirror_cost other i)
 quiet_mirror false i at f = quiet_mirrored i at f
 quiet_mirror true i at f = record {
   leads = λ w v rest s st r. leads_led w v 0 (DIVERSE_STEPS - spent i) rest same step (diverse_row w v.now v.original v.shadow i rest f (subst (λ p. At w v.now (diverse i p ++ rest) v.original v.shadow) (sym r.here) st) r.sourced r.known r.calm);

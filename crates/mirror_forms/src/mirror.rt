@@ -33,7 +33,7 @@ impl Pass for Mirror {
 
     ghost needs = { λ p i at w v. Runs w i at v.shadow };
 
-    ghost gives = { λ p i at w. Does same step 0 };
+    ghost gives = { λ p i at w. Does w same step 0 };
 
     ghost leaves = { λ p i at w v n z. ⊥ };
 

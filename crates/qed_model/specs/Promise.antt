@@ -1,5 +1,6 @@
 -- What is promised of the runs of an output.
 pub mod Kept
+pub mod OwnSteps
 pub mod Landed
 pub mod Closed
 pub mod Changed

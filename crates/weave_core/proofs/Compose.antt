@@ -16,13 +16,13 @@ use Rattle.weave_core.proofs.Landing.{land_then, land_behind, straight_lands, st
 -- a row that moves the two states of the input
 pub leads_led :
     (w : World) (v : Views) (least most : ℕ) (rest : List Item) (f g : State → State) → Led w v.now least most rest (f v.original) (g v.shadow)
-    → Leads w v most rest (Does f g least v) (λ n z. ⊥)
+    → Leads w v most rest (Does w f g least v) (λ n z. ⊥)
 leads_led w v least most rest f g l = record {
   steps = l.steps;
   to = record { now = l.to; original = f v.original; shadow = g v.shadow; leads = v.leads };
   within = l.within;
   walk = l.walk;
-  ends = inl (l.at, record { original = refl; shadow = refl; at_least = l.at_least; cursor = l.cursor; sign = l.sign; leads = refl });
+  ends = inl (l.at, record { original = refl; shadow = refl; going = l.at.over.going; halved = l.at.halved; at_least = l.at_least; cursor = l.cursor; sign = l.sign; leads = refl });
 }
 
 -- one pass after another
@@ -67,17 +67,17 @@ guards_led w (q ∷ qs) u s s' rest low e a =
 
 pub quiet_guards :
     (suits : Bool → Type 0) (qs : List ℕ) → AllLow qs
-    → Quiet suits (guards qs) (λ w v. AllSame qs v.original v.shadow) (λ w. Does same same 0) (λ w v n z. ⊥) (length qs)
+    → Quiet suits (guards qs) (λ w v. AllSame qs v.original v.shadow) (λ w. Does w same same 0) (λ w v n z. ⊥) (length qs)
 quiet_guards suits qs low = record { leads = λ w v rest s st need. leads_led w v 0 (length qs) rest same same (guards_led w qs v.now v.original v.shadow rest low need st) }
 
 -- a pass behind guards
 pub quiet_guarded :
     (s : Bool → Type 0) (qs : List ℕ) (xs : List Item) (needs : World → Views → Type 0) (gives leaves : World → Views → ℕ → Views → Type 0) (m : ℕ)
     → AllLow qs → Quiet s xs needs gives leaves m
-    → Quiet s (guards qs ++ xs) (λ w. NeedsBoth (λ v. AllSame qs v.original v.shadow) (Does same same 0) (needs w)) (λ w v. Chain v (length qs) (Does same same 0 v) (gives w)) (λ w v. Chain v (length qs) (Does same same 0 v) (leaves w)) (length qs + m)
+    → Quiet s (guards qs ++ xs) (λ w. NeedsBoth (λ v. AllSame qs v.original v.shadow) (Does w same same 0) (needs w)) (λ w v. Chain v (length qs) (Does w same same 0 v) (gives w)) (λ w v. Chain v (length qs) (Does w same same 0 v) (leaves w)) (length qs + m)
 quiet_guarded s qs xs needs gives leaves m low a = record {
   leads = λ w v rest suits st need.
-      let both = quiet_then s s (guards qs) xs (λ w v. AllSame qs v.original v.shadow) needs (λ w. Does same same 0) (λ w v n z. ⊥) gives leaves (length qs) m (quiet_guards s qs low) a in
+      let both = quiet_then s s (guards qs) xs (λ w v. AllSame qs v.original v.shadow) needs (λ w. Does w same same 0) (λ w v n z. ⊥) gives leaves (length qs) m (quiet_guards s qs low) a in
       let x = both.leads w v rest (suits, suits) st need in
       record { steps = x.steps; to = x.to; within = x.within; walk = x.walk; ends = ⊎_elim (λ p. inl p) (λ l. inr (⊎_elim (λ f. absurd f) (λ c. c) l)) x.ends };
 }

@@ -13,7 +13,7 @@ use Rattle.machine.specs.Offsets.{distance_between, upper_part}
 use Rattle.qed_model.specs.Weave.Bounds.{end_bound, visit_bound}
 use Rattle.machine.proofs.Lemmas.{known_at, run-more, constant_walk, set_reg-pos, run-none, Over}
 use Rattle.qed_model.proofs.Lemmas.{run_prefix}
-use Rattle.weave_core.specs.World.{Item, Plain, Ended, World, Twice, IsCursor, holds, Beq, Auipc, ins, set_reg, State, reg, moved, stopped, Known, HasAt, step, run, jumped, imm, next_pc, Program}
+use Rattle.weave_core.specs.World.{Item, Plain, Going, Ended, World, Twice, IsCursor, holds, Beq, Auipc, ins, set_reg, State, reg, moved, stopped, Known, HasAt, step, run, jumped, imm, next_pc, Program}
 use Rattle.weave_core.specs.Blocks.{IsEntryOf, FitsPiece, AllFit, Leaves, EndStands}
 use Rattle.weave_core.specs.Rows.{At, Sourced, Mirrors}
 use Rattle.weave_core.specs.KindItems.{MirrorsFit}
@@ -22,20 +22,22 @@ use Rattle.weave_core.specs.Plan.{PlanKept, PlanLanded}
 use Rattle.weave_core.specs.Pass.{Views, Leads, Quiet, Lockstep, Does, same}
 use Rattle.weave_core.specs.Leaving.{swept_end, Signs}
 use Rattle.weave_core.proofs.Visit.{checked_behind, words_within, cursor_decided, cursor_is}
-use Rattle.weave_core.proofs.Source.{fit_front, has_front}
+use Rattle.weave_core.proofs.Source.{fit_front, has_front, not_trapped_le, source_run}
+use Rattle.weave_core.proofs.Rows.{halved_input}
+use Rattle.weave_core.proofs.Trails.{holds_of, met_going}
 use Rattle.tests.specs.Admission.DataRanges.{word_count}
 use Rattle.weave_core.proofs.Leaves.{step-end, step-branch, step-break}
 use Rattle.weave_core.specs.Each.{items_each, NeedsEach, GivesEach, LeavesEach}
 use Rattle.weave_core.specs.Parts.{any, bare, Runs, NeedsOriginal, GivesOriginal, LeavesOriginal, GivesMirror, LeavesMirror, ForOriginal, NeedsPiece, GivesPiece, LeavesPiece, piece_items, piece_cost, Checks}
 use Rattle.weave_core.proofs.Compose.{leads_led, quiet_then, quiet_guarded, lockstep_then, lockstep_guarded, lockstep_each, quiet_each, each_front, each_same}
 use Rattle.weave_core.proofs.PartLaws.{quiet_original, quiet_compare, quiet_visit, lockstep_original, lockstep_mirror}
-use Rattle.weave_core.proofs.PieceLaws.{AreChecks, both_checks, never_originals, for_originals, for_mirrors, needs_originals, gives_originals, piece_leads, cost_parts, guarded_original, parts_are}
+use Rattle.weave_core.proofs.PieceLaws.{AreChecks, both_checks, never_originals, for_originals, for_mirrors, needs_originals, gives_originals, originals_trail, piece_leads, cost_parts, guarded_original, parts_are}
 use Rattle.weave_core.proofs.LeaveLaws.{quiet_enter, fall_law, leave_law, quiet_sweep}
 use Rattle.weave_core.proofs.KindItems.{items_then, compare_items, visits_items}
 use Rattle.weave_core.proofs.Landing.{land_behind, straight_compare, land_visits}
 use Rattle.weave_core.proofs.Prologue.{prologue_row}
 use Rattle.weave_core.specs.Weave.{Weave, start_steps, stage_steps}
-use Rattle.weave_core.specs.WeaveLaws.{PieceAt, EntryAt, Holds, Stands, GoesTo, Inside, Checked, stops, Onward, lands, is_lost, Left, Keeps, CheckedRows, Starts, Guarded}
+use Rattle.weave_core.specs.WeaveLaws.{PieceAt, EntryAt, Met, Trail, Stands, GoesTo, Inside, Checked, stops, Onward, lands, is_lost, Left, Keeps, CheckedRows, Starts, Guarded}
 use Rattle.weave_core.specs.WeavePromise.{PlanOf}
 use Rattle.weave_core.specs.WeaveForms.{is_signed_at, weave_with, weave_of, ChecksLaws}
 use Rattle.qed_model.specs.Weave.Costs.{spent, cost_each, used, bare_cost, original_cost}
@@ -60,12 +62,12 @@ module _ (form : Form) where
   abbrev pub other_cost : Ins → ℕ
   other_cost i = form.cost - spent i
 
-  pub quiet_other : (i : Ins) (at : ℕ) → FitsPiece i → Quiet any (form.mirror i at) (NeedsOther i at) (λ w. Does same step 0) (λ w v n z. ⊥) (other_cost i)
+  pub quiet_other : (i : Ins) (at : ℕ) → FitsPiece i → Quiet any (form.mirror i at) (NeedsOther i at) (λ w. Does w same step 0) (λ w v n z. ⊥) (other_cost i)
   quiet_other i at f = record {
     leads = λ w v rest s st r.
         let a1 : At w v.now (form.mirror i v.shadow.pc ++ rest) v.original v.shadow = subst (λ p. At w v.now (form.mirror i p ++ rest) v.original v.shadow) (sym r.2.here) st in
         let a2 : At w v.now (w.form.mirror i v.shadow.pc ++ rest) v.original v.shadow = subst (λ (f : Form). At w v.now (f.mirror i v.shadow.pc ++ rest) v.original v.shadow) (sym r.0) a1 in
-        subst (λ (f : Form). Leads w v (f.cost - spent i) rest (Does same step 0 v) (λ n z. ⊥)) r.0
+        subst (λ (f : Form). Leads w v (f.cost - spent i) rest (Does w same step 0 v) (λ n z. ⊥)) r.0
         (leads_led w v 0 (w.form.cost - spent i) rest same step (r.1.row v.now v.original v.shadow i rest f a2 r.2.sourced r.2.known r.2.calm));
   }
 
@@ -75,7 +77,7 @@ module _ (form : Form) where
       → Quiet any (items_each plus (λ i at. guards (used i) ++ bare i at) is at) (NeedsEach plus NeedsOriginal GivesOriginal is at) (GivesEach plus original_cost GivesOriginal is at) (LeavesEach plus original_cost GivesOriginal LeavesOriginal is at) (cost_each original_cost is)
   quiet_front is at f =
       quiet_each plus any ForOriginal (λ i. []) (λ i at. guards (used i) ++ bare i at) NeedsOriginal GivesOriginal LeavesOriginal original_cost
-      (λ i at f. quiet_guarded any (used i) (bare i at) (λ w v. Runs w i at v.original) (λ w. Does step same 1) (λ w v n z. ⊥) (bare_cost i) f.1 (quiet_original i at f.0)) is at (for_originals plus is at f)
+      (λ i at f. quiet_guarded any (used i) (bare i at) (λ w v. Runs w i at v.original) (λ w. Does w step same 1) (λ w v n z. ⊥) (bare_cost i) f.1 (quiet_original i at f.0)) is at (for_originals plus is at f)
 
   abbrev suits : Bool → Type 0
   suits far = any far × (any far × any far)
@@ -123,7 +125,7 @@ lockstep_piece form checks m c is at h =
 -- behind the first n instructions of a run the original half has made n steps, whatever stands behind the original parts
 pub front_row :
     (w : World) (is : List Ins) (n : ℕ) (u s : State) (tail : List Item) → n < length is → AllFit is → is_run is ≡ true → HasAt w.source s.pc is
-    → At w u (each_part original is s.pc ++ tail) s s → Sourced w s → NotTrapped (run s n) → GoesTo w u n (3 * n) (λ k x. Inside w s n x)
+    → At w u (each_part original is s.pc ++ tail) s s → Sourced w s → NotTrapped (run s n) → GoesTo w u n (3 * n) (λ k x. Inside w u s n k x)
 front_row w is n u s tail l fit clean has a so calm =
     let xs = take n is in
     let ys = drop n is in
@@ -141,7 +143,9 @@ front_row w is n u s tail l fit clean has a so calm =
     ⊎_elim
     (λ e.
     let m = gives_originals plus (λ a h. refl) w xs s.pc v g.to g.steps e.1 in
-    let t : Twice w g.to.now (run s n) g.to.shadow = subst (λ y. Twice w g.to.now y g.to.shadow) (m.original ∙ ap (run s) count) e.0.halved in
+    let goes : (k : ℕ) → k ≤ length xs → (run s k).outcome ≡ Going = λ k h. (source_run w xs k s h fits so has1 (not_trapped_le s k n (omega (arith, h, count)) calm)).sourced.over.going in
+    let met : Met w u s = met_going w u s (holds_of w u s s a.halved) a.over.going so.over.going in
+    let trail = originals_trail plus (λ a h. refl) w xs s.pc v g.to g.steps e.1 met goes in
     let three = cost_parts 3 (λ i. 0) (omega arith) (λ i. omega arith) xs in
     record {
       steps = g.steps;
@@ -149,7 +153,7 @@ front_row w is n u s tail l fit clean has a so calm =
       at_least = omega (arith, m.slow, count);
       within = omega (arith, g.within, three, count);
       walk = g.walk;
-      is = record { going = e.0.over.going; holds = record { output = t.output; originals = t.originals; bytes = t.bytes } };
+      is = record { going = e.0.over.going; trail = subst (λ k. Trail w u s k g.steps) count trail };
     })
     (λ e. absurd (never_originals plus xs s.pc w v g.to g.steps e))
     g.ends
@@ -193,7 +197,7 @@ module _ (w : World) (most : ℕ) (checks : List Item) (first steps : ℕ) (laws
     -- ---- a piece
     inside_law :
         (is : List Ins) (n : ℕ) (u s : State) (rest : List Item) → n < length is → PieceAt w v s.pc is → At w u (v.code.piece is s.pc ++ rest) s s
-        → Sourced w s → NotTrapped (run s n) → GoesTo w u n v.piece_steps (λ k x. Inside w s n x)
+        → Sourced w s → NotTrapped (run s n) → GoesTo w u n v.piece_steps (λ k x. Inside w u s n k x)
     inside_law is n u s rest l p a so calm =
         let both = and_parts _ _ p.one in
         let few : 3 * n ≤ w.form.cost * most = mul-le-mul law.enough (let h = leb-true (length is) most both.1 in omega (arith, h, l)) in
@@ -203,7 +207,7 @@ module _ (w : World) (most : ℕ) (checks : List Item) (first steps : ℕ) (laws
 
     piece_law :
         (is : List Ins) (b : ℕ) (u s : State) (rest : List Item) → v.held w u b ≡ true → PieceAt w v s.pc is → At w u (v.code.piece is s.pc ++ rest) s s
-        → Sourced w s → NotTrapped (run s (length is)) → GoesTo w u (length is) v.piece_steps (λ n x. (At w x rest (run s (length is)) (run s (length is)) × (v.held w x b ≡ true)) × Checked w v.compare_steps v.round u n x)
+        → Sourced w s → NotTrapped (run s (length is)) → GoesTo w u (length is) v.piece_steps (λ n x. (At w x rest (run s (length is)) (run s (length is)) × (v.held w x b ≡ true) × Trail w u s (length is) n) × Checked w v.compare_steps v.round u n x)
     piece_law is b u s rest held p a so calm =
         let own = held_parts w u b held in
         let both = and_parts _ _ p.one in
@@ -221,7 +225,7 @@ module _ (w : World) (most : ℕ) (checks : List Item) (first steps : ℕ) (laws
           at_least = e.1.slow;
           within = omega (arith, g.within, m);
           walk = g.walk;
-          is = ((at_views g.to (run s (length is)) rest e.0 e.1.original e.1.shadow, held_is w g.to.now b (e.1.sign ∙ own.0) (subst (IsCursor w.form.spans) (sym c.cursor) (words_within w.form.spans w.base w.form.round (reg u CURSOR) w.spans_good own.1))), record { compare = c.compare; soon = omega (arith, c.soon, m); inside = c.inside; compares = c.compares; cursor = c.cursor; visits = c.visits });
+          is = ((at_views g.to (run s (length is)) rest e.0 e.1.original e.1.shadow, held_is w g.to.now b (e.1.sign ∙ own.0) (subst (IsCursor w.form.spans) (sym c.cursor) (words_within w.form.spans w.base w.form.round (reg u CURSOR) w.spans_good own.1)), e.1.trail), record { compare = c.compare; soon = omega (arith, c.soon, m); inside = c.inside; compares = c.compares; cursor = c.cursor; visits = c.visits });
         })
         (λ e. absurd e)
         g.ends
@@ -260,14 +264,14 @@ module _ (w : World) (most : ℕ) (checks : List Item) (first steps : ℕ) (laws
             ⊎_elim
             (λ e. absurd e.1)
             (λ l.
-            let has : Holds w x.to.now (stopped Ended s) = record { output = l.holds.output; originals = l.holds.originals; bytes = l.holds.bytes } in (
+            let has : Twice w x.to.now (stopped Ended s) (stopped Ended s) = halved_input w Ended x.to.now s l.halved in (
               inl (record {
                 steps = x.steps;
                 to = x.to.now;
                 at_least = omega (arith, l.swept.exact);
                 within = omega (arith, high);
                 walk = x.walk;
-                is = record { ended = l.ended; holds = subst (Holds w x.to.now) (sym e) has; input = ap (λ x. x.outcome) e };
+                is = record { ended = l.ended; halved = subst (λ y. Twice w x.to.now y y) (sym e) has; input = ap (λ x. x.outcome) e };
               }),
               λ sw. l.swept,
             ))
@@ -355,7 +359,7 @@ module _ (w : World) (most : ℕ) where
 -- ---- a pass before the checks
 -- where it leaves both halves as they are, they have the laws with it
 pub checks_after :
-    (form : Form) (xs checks : List Item) (m first steps : ℕ) → Quiet any xs (λ w v. v.original ≡ v.shadow) (λ w. Does same same 0) (λ w v n z. ⊥) m
+    (form : Form) (xs checks : List Item) (m first steps : ℕ) → Quiet any xs (λ w v. v.original ≡ v.shadow) (λ w. Does w same same 0) (λ w v n z. ⊥) m
     → Lockstep any [] xs → ChecksLaws form checks first steps → ChecksLaws form (xs ++ checks) (m + first) (m + steps)
 checks_after form xs checks m first steps quiet lock laws = record {
   quiet = record {

@@ -4,16 +4,16 @@ use Rattle.rv_isa.specs.declared.class.Class.TheVariants as class
 use Rattle.rv_isa.proofs.RegsLaws.{slice_index-set_reg_other}
 use Rattle.tests.specs.Admission.DataRanges.{word_count}
 use Rattle.qed_model.specs.Weave.Bounds.{end_bound}
-use Rattle.qed_model.specs.Weave.Sequences.{enter, go_on, sweep, compare, class_of, Class, Ins, ORIGINALS, CURSOR, SIGNATURE}
+use Rattle.qed_model.specs.Weave.Sequences.{enter, go_on, sweep, compare, class_of, Class, Ins, ORIGINALS, PAIR_DISTANCE, CURSOR, SIGNATURE}
 use Rattle.machine.proofs.Lemmas.{over_moved, known_at, Walk, walk_none, walk_on}
 use Rattle.weave_core.specs.World.{Item, Plain, Go, Ended, World, Quiet as Calm, Twice, set_reg, State, reg, moved, stopped, Known, step, target, holds}
 use Rattle.weave_core.specs.Blocks.{IsEntryOf, Goes}
 use Rattle.weave_core.specs.Rows.{At, Sourced, Led}
 use Rattle.weave_core.specs.Pass.{Views, Leads, Quiet, Does, same}
 use Rattle.weave_core.proofs.Compose.{leads_led}
-use Rattle.weave_core.specs.WeaveLaws.{Holds, GoesTo, Onward, lands, is_lost}
+use Rattle.weave_core.specs.WeaveLaws.{GoesTo, Onward, lands, is_lost}
 use Rattle.weave_core.specs.Leaving.{Enters, left_as, left, IsLeft, GoesFrom, Leaving, LeavesOn, Signs, swept_end, sweep_cost, Sweeps, SweptTo}
-use Rattle.weave_core.proofs.Rows.{halved_free, halved_stopped}
+use Rattle.weave_core.proofs.Rows.{halved_free, halved_stopped, halved_input}
 use Rattle.weave_core.proofs.Words.{const_walk, const_signed, free_16}
 use Rattle.weave_core.proofs.Leaves.{enter_row, Lands, lands_behind, go_row, go_most, go_most_le, links_row, jump_step, step-end, step-illegal, end_walk}
 use Rattle.weave_core.proofs.Branch.{branch_to, branch_step, second_part, turn_row, turn_go}
@@ -22,7 +22,7 @@ use Rattle.weave_core.proofs.Endings.{sweep_row}
 use Rattle.weave_core.proofs.Entries.{reads_front}
 
 -- ---- the entry
-pub quiet_enter : (at : ℕ) → Quiet (λ far. Unit {0}) (enter at) (λ w. Enters w at) (λ w. Does same same 3) (λ w v n z. ⊥) 3
+pub quiet_enter : (at : ℕ) → Quiet (λ far. Unit {0}) (enter at) (λ w. Enters w at) (λ w. Does w same same 3) (λ w v n z. ⊥) 3
 quiet_enter at = record { leads = λ w v rest s st e. leads_led w v 3 3 rest same same (subst (λ t. Led w v.now 3 3 rest v.original t) e.same (row w v rest e (subst (λ p. At w v.now (enter p ++ rest) v.original v.original) (sym e.here) (subst (λ t. At w v.now (enter at ++ rest) v.original t) (sym e.same) st)))) } where
   row :
       (w : World) (v : Views) (rest : List Item) → Enters w at v → At w v.now (enter v.original.pc ++ rest) v.original v.original
@@ -101,7 +101,7 @@ module _ (w : World) (rest : List Item) (v : Views) (entries : (a : ℕ) → v.l
           original = refl;
           shadow = refl;
           cursor = refl;
-          left = (record { ended = refl; holds = subst (Holds w (stopped Ended u)) (sym e) (record { output = h.output; originals = h.originals; bytes = h.bytes }); input = ap (λ x. x.outcome) e }, h, omega arith);
+          left = (record { ended = refl; halved = subst (λ y. Twice w (stopped Ended u) y y) (sym e) (halved_input w Ended (stopped Ended u) s h); input = ap (λ x. x.outcome) e }, h, omega arith);
         });
       }
   leave_law class.Illegal next i c f a so g = absurd (step-illegal s i so.over.going (known_at w.source s i so.over g.0) c g.3)
@@ -193,12 +193,8 @@ quiet_sweep spans i k = record { leads = λ w v rest s st need. subst (λ l. Lea
           original = refl;
           shadow = refl;
           memory = refl;
-          originals = x.same;
-          holds = record {
-            output = record { flags = t.output.flags; regs = x.long; zero_reg = x.same 0 (omega arith) ∙ t.output.zero_reg };
-            originals = λ r l. x.same r l ∙ t.originals r l;
-            bytes = t.bytes;
-          };
+          originals = λ q l. x.tempered.same q (λ e. absurd (omega arith)) (λ e. absurd (omega arith)) (λ e. absurd (omega arith));
+          halved = halved_stopped w Ended v.now v.original v.original x.regs x.sets.pc x.tempered.long (λ q l. x.tempered.same q (λ e. absurd (omega arith)) (λ e. absurd (omega arith)) (λ e. absurd (omega arith))) (λ q one l. x.tempered.same (q + PAIR_DISTANCE) (λ e. absurd (omega arith)) (λ e. absurd (omega arith)) (λ e. absurd (omega arith))) t;
           swept = x.swept;
         });
       }

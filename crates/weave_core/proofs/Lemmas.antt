@@ -36,7 +36,7 @@ pub use Rattle.weave_core.proofs.KindItems.{compare_items, end_items, enter_item
 pub use Rattle.weave_core.proofs.Landing.{all_land_append, has_rest, known_same, land_at, land_behind, land_check, land_end, land_enter, land_go, land_go_on, land_leave, land_prologue, land_sweep, land_then, land_visits, over_words, small_size, straight_both, straight_compare, straight_compute, straight_constant, straight_guard, straight_guards, straight_lands, straight_links, straight_load, straight_none, straight_one, straight_then, straight_zeros}
 pub use Rattle.weave_core.proofs.Ways.{opposite_is}
 pub use Rattle.weave_core.proofs.Fork.{branch_items, branch_lands, fork, fork_items, fork_lands}
-pub use Rattle.weave_core.proofs.Store.{store_inside, store_items, store_lands, store_row}
+pub use Rattle.weave_core.proofs.Store.{store_items, store_lands, store_row}
 pub use Rattle.weave_core.proofs.ScratchParts.{plain_mirrors_fit}
 pub use Rattle.weave_core.proofs.DiverseFit.{diverse_mirrors_fit}
 pub use Rattle.weave_core.proofs.Entries.{first_sourced, reads_front, reads_rest}

@@ -44,13 +44,13 @@ module _ (w : World) where
         | false ↦ λ e x. bare_as (class_of i.kind) u s s' i rest refl f.body f e x so h calm
       ] refl a
 
-pub quiet_original : (i : Ins) (at : ℕ) → FitsPiece i → Quiet any (bare i at) (λ w v. Runs w i at v.original) (λ w. Does step same 1) (λ w v n z. ⊥) (bare_cost i)
+pub quiet_original : (i : Ins) (at : ℕ) → FitsPiece i → Quiet any (bare i at) (λ w v. Runs w i at v.original) (λ w. Does w step same 1) (λ w v n z. ⊥) (bare_cost i)
 quiet_original i at f = record {
   leads = λ w v rest s st r. leads_led w v 1 (bare_cost i) rest step same (bare_row w v.now v.original v.shadow i rest f (subst (λ p. At w v.now (bare i p ++ rest) v.original v.shadow) (sym r.here) st) r.sourced r.known r.calm);
 }
 
 -- ---- the mirror part
-pub quiet_mirrored : (i : Ins) (at : ℕ) → FitsPiece i → Quiet any (mirrored i at) (λ w v. Runs w i at v.shadow) (λ w. Does same step 0) (λ w v n z. ⊥) 2
+pub quiet_mirrored : (i : Ins) (at : ℕ) → FitsPiece i → Quiet any (mirrored i at) (λ w v. Runs w i at v.shadow) (λ w. Does w same step 0) (λ w v n z. ⊥) 2
 quiet_mirrored i at f = record {
   leads = λ w v rest s st r. leads_led w v 0 2 rest same step (mirrored_row w v.now v.original v.shadow i rest f (subst (λ p. At w v.now (mirrored i p ++ rest) v.original v.shadow) (sym r.here) st) r.sourced r.known r.calm);
 }

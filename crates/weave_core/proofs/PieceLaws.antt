@@ -11,16 +11,17 @@ use Rattle.qed_model.specs.Weave.Sequences.{guard, guards, original, original_as
 use Rattle.machine.specs.Operands.{is_auipc}
 use Rattle.qed_model.specs.Weave.Costs.{spent, spent_as, cost_each, used, used_as, original_cost}
 use Rattle.machine.proofs.Lemmas.{run-more, run-none}
-use Rattle.weave_core.specs.World.{Item, Plain, Constant, World, IsCursor, words_on, State, reg, Known, step, run, HasAt, target}
+use Rattle.weave_core.specs.World.{Item, Plain, Constant, Going, World, IsCursor, words_on, State, reg, Known, step, run, HasAt, target}
 use Rattle.weave_core.specs.Blocks.{IsLowAs, FitsPiece, AllFit}
 use Rattle.weave_core.specs.Kinds.{originals}
 use Rattle.weave_core.specs.Lock.{ComparesFrom}
-use Rattle.weave_core.specs.WeaveLaws.{Visits}
+use Rattle.weave_core.specs.WeaveLaws.{Visits, Met, Trail}
 use Rattle.weave_core.specs.Pass.{Views, Stands, Leads, Quiet, AllLow, AllSame}
 use Rattle.weave_core.specs.Each.{items_each, ForEach, NeedsEach, GivesEach, LeavesEach}
 use Rattle.weave_core.specs.Parts.{bare, Runs, none, NeedsOriginal, GivesOriginal, LeavesOriginal, GivesMirror, LeavesMirror, NeedsChecks, GivesChecks, LeavesChecks, ForOriginal, NeedsPiece, GivesPiece, LeavesPiece, piece_items, piece_cost, Checks, Pieced}
 use Rattle.weave_core.proofs.Body.{auipc_is, spent_le}
-use Rattle.weave_core.proofs.Source.{body_step, not_trapped_front, EqualBut, equal_on, UsesUnwritten, clean_uses, Sourced}
+use Rattle.weave_core.proofs.Source.{body_step, not_trapped_front, not_trapped_le, source_run, EqualBut, equal_on, UsesUnwritten, clean_uses, Sourced}
+use Rattle.weave_core.proofs.Trails.{holds_of, met_going, met_same, trail_later, trail_on, trail_one}
 use Rattle.weave_core.proofs.Visit.{visit_later, checked_behind}
 use Rattle.weave_core.proofs.Compose.{each_same}
 
@@ -156,6 +157,21 @@ module _ (next : ℕ → ℕ) (plus : (a : ℕ) → a + 8 ≤ 2 ^ 63 → next a 
         sign = r.sign ∙ d.last.sign ∙ d.first.sign;
       }
 
+  -- the original half comes to each state of the input between
+  pub originals_trail :
+      (is : List Ins) (at : ℕ) (v z : Views) (n : ℕ) → GivesEach next original_cost GivesOriginal is at w v n z
+      → Met w v.now v.original → ((k : ℕ) → k ≤ length is → (run v.original k).outcome ≡ Going) → Trail w v.now v.original (length is) n
+  unfolding run
+  originals_trail [] at v z n g met goes = subst (λ k. Met w (run v.now k) v.original) (sym g.0) met
+  originals_trail (i ∷ is) at v z n g met goes =
+      let d = g.first in
+      let eo : g.middle.original ≡ step v.original = d.last.original ∙ ap step d.first.original in
+      let goes1 : (k : ℕ) → k ≤ length is → (run g.middle.original k).outcome ≡ Going = λ k l. subst (λ s. (run s k).outcome ≡ Going) (sym eo) (goes (suc k) (omega (arith, l))) in
+      let there : Met w g.middle.now g.middle.original = met_going w g.middle.now g.middle.original (holds_of w g.middle.now g.middle.original g.middle.shadow d.last.halved) d.last.going (goes1 0 (omega arith)) in
+      let rest = originals_trail is (next at) g.middle z g.more g.last there goes1 in
+      let first : Trail w v.now v.original 1 g.some = trail_one w v.now v.original g.some (omega (arith, d.sum, d.last.at_least)) met (met_same w (run v.now g.some) g.middle.now (run v.original 1) g.middle.original g.runs (sym eo) there) in
+      subst (Trail w v.now v.original (suc (length is))) (sym g.sum) (trail_on w v.now v.original g.middle.now g.middle.original 1 g.some g.runs (sym eo) first (length is) g.more (suc (length is)) (omega arith) rest)
+
   -- ---- the mirrors
   pub needs_mirrors :
       (needs : Ins → ℕ → World → Views → Type 0) → ((i : Ins) (at : ℕ) (v : Views) → Runs w i at v.shadow → needs i at w v)
@@ -211,21 +227,24 @@ module _ (next : ℕ → ℕ) (plus : (a : ℕ) → a + 8 ≤ 2 ^ 63 → next a 
           )
 
       gives_piece :
-          (most : ℕ) (v z : Views) (n : ℕ) → cost_each original_cost is + cost_each cost is ≤ most → v.original ≡ v.shadow
+          (most : ℕ) (v z : Views) (n : ℕ) → cost_each original_cost is + cost_each cost is ≤ most → v.original ≡ v.shadow → Met w v.now v.original
+          → ((k : ℕ) → k ≤ length is → (run v.original k).outcome ≡ Going) → (z.original ≡ run v.original (length is) → Met w (run v.now n) (run v.original (length is)))
           → GivesPiece next cost gc is at w v n z → Pieced w (most + first) round is v.original v n z
-      gives_piece most v z n few e g =
+      gives_piece most v z n few e met goes last g =
           let o = gives_originals is at v g.middle g.some g.first in
           let h = g.last in
           let r = gives_mirrors cost is at g.middle h.middle h.some h.first in
           let c = are.checks h.middle z h.more h.last in
           let es : g.middle.shadow ≡ v.original = o.shadow ∙ sym e in
           let here : run v.now (g.some + h.some) ≡ h.middle.now = run-more v.now g.some h.some ∙ ap (λ x. run x h.some) g.runs ∙ h.runs in
+          let end : z.original ≡ run v.original (length is) = c.original ∙ r.original ∙ o.original in
           record {
-            original = c.original ∙ r.original ∙ o.original;
+            original = end;
             shadow = c.shadow ∙ r.shadow ∙ ap (λ s. run s (length is)) es;
             slow = omega (arith, o.slow, g.sum);
             sign = c.sign ∙ r.sign ∙ o.sign;
             checked = checked_behind w first round v.now h.middle.now z.now (g.some + h.some) most h.more n here (r.cursor ∙ o.cursor) (omega (arith, g.within, h.within, few)) (omega (arith, g.sum, h.sum)) c.checked;
+            trail = trail_later w v.now v.original (length is) g.some n (omega (arith, g.sum)) (last end) (originals_trail is at v g.middle g.some g.first met goes);
           }
 
       never_piece : (v z : Views) (n : ℕ) → LeavesPiece next cost lc is at w v n z → ⊥
@@ -248,8 +267,15 @@ module _ (next : ℕ → ℕ) (plus : (a : ℕ) → a + 8 ≤ 2 ^ 63 → next a 
             to = x.to;
             within = omega (arith, x.within, few);
             walk = x.walk;
-            ends = ⊎_elim (λ g. inl (g.0, gives_piece most v x.to x.steps few e g.1)) (λ l. absurd (never_piece v x.to x.steps l)) x.ends;
-          }
+            ends = ⊎_elim (λ g. inl (g.0, gives_piece most v x.to x.steps few e (met_going w v.now v.original (holds_of w v.now v.original v.shadow st.halved) st.over.going so.over.going) goes (last x g.0) g.1)) (λ l. absurd (never_piece v x.to x.steps l)) x.ends;
+          } where
+            goes : (k : ℕ) → k ≤ length is → (run v.original k).outcome ≡ Going
+            goes k l = (source_run w is k v.original l fit so (subst (λ a. HasAt w.source a is) (sym pc) has) (not_trapped_le v.original k (length is) l calm)).sourced.over.going
+
+            last :
+                (x : Leads w v (piece_cost cost steps is) rest (GivesPiece next cost gc is at w v) (LeavesPiece next cost lc is at w v)) → Stands w x.to rest → x.to.original ≡ run v.original (length is)
+                → Met w (run v.now x.steps) (run v.original (length is))
+            last x a e = met_same w (run v.now x.steps) x.to.now (run v.original (length is)) x.to.original x.walk.ends (sym e) (met_going w x.to.now x.to.original (holds_of w x.to.now x.to.original x.to.shadow a.halved) a.over.going (ap (λ s. s.outcome) e ∙ goes (length is) (omega arith)))
 
 -- ---- bounds
 cost_as : (c : Class) (b : Bool) (i : Ins) → (b ≡ true → c ≡ class.Compute) → length (used_as c i) + cond b 2 1 ≤ 3

@@ -130,18 +130,6 @@ module _ (w : World) (u s : State) (i : Ins) (rest : List Item) (fit : FitsPiece
         sign = two.sign ∙ one.sign ∙ writes_out set u.regs 16 (λ e. absurd (omega arith), (λ e. absurd (omega arith), tt));
       }
 
-  -- each step of the input within is made by the original half of a state on the way
-  holds_of : (x t : State) → Twice w x t t → Holds w x t
-  holds_of x t h = record { output = h.output; originals = h.originals; bytes = h.bytes }
-
-  pub store_inside : (n : ℕ) → n ≤ 1 → GoesTo w u n (store_steps i) (λ m x. Inside w s n x)
-  unfolding run
-  store_inside zero h = record { steps = 0; to = u; at_least = omega arith; within = omega arith; walk = walk_none (Quiet w) u; is = record { going = a.over.going; holds = holds_of u s a.halved } }
-  store_inside (suc zero) h =
-      let x = store_row in
-      record { steps = x.steps; to = x.to; at_least = omega (arith, x.at_least); within = x.within; walk = x.walk; is = record { going = x.at.over.going; holds = holds_of x.to (step s) x.at.halved } }
-  store_inside (suc (suc n)) h = absurd (omega arith)
-
 -- ---- the kinds of its words
 module _ (far : Bool) (i j : Ins) (k : class_of i.kind ≡ class.Store) (k' : class_of j.kind ≡ class.Store) (mirror : Lockstep (j ∷ [])) (q : ℕ) (b : q ≤ LAST_ORIGINAL) where
   -- the guard of the value, and both stores

@@ -11,7 +11,7 @@ use Rattle.weave_core.specs.World.{Item, Plain, Ended, World, Twice, State, reg,
 use Rattle.weave_core.specs.Rows.{Sourced}
 use Rattle.weave_core.specs.Blocks.{IsEntryOf, Goes, Leaves}
 use Rattle.weave_core.specs.Pass.{Views}
-use Rattle.weave_core.specs.WeaveLaws.{Holds, Swept, Ends, Onward}
+use Rattle.weave_core.specs.WeaveLaws.{Swept, Ends, Onward}
 
 -- ---- the entry
 -- both halves are those of one state of the input, whose pc has its entry here, and the signature is that pc
@@ -110,5 +110,5 @@ pub record SweptTo (w : World) (spans : List (ℕ × ℕ)) (v : Views) (n : ℕ)
   pub shadow : z.shadow ≡ v.original
   pub memory : z.now.memory ≡ v.now.memory
   pub originals : (q : ℕ) → q ≤ LAST_ORIGINAL → reg z.now q ≡ reg v.now q
-  pub holds : Holds w z.now v.original
+  pub halved : Twice w z.now v.original v.original
   pub swept : Swept w (sweep_cost spans) v.now n

@@ -12,7 +12,7 @@ use Rattle.weave_core.specs.Blocks.{FitsPiece, AllFit}
 use Rattle.weave_core.specs.Rows.{Sourced}
 use Rattle.weave_core.specs.Kinds.{originals}
 use Rattle.weave_core.specs.Lock.{ComparesFrom}
-use Rattle.weave_core.specs.WeaveLaws.{Visits, Checked}
+use Rattle.weave_core.specs.WeaveLaws.{Visits, Checked, Trail}
 use Rattle.weave_core.specs.Pass.{Views, Stands, Chain, NeedsBoth, Does, same, Leads, AllLow, AllSame}
 use Rattle.weave_core.specs.Each.{items_each, ForEach, NeedsEach, GivesEach, LeavesEach}
 
@@ -38,20 +38,20 @@ none n z = ⊥
 
 -- the guarded originals
 abbrev pub NeedsOriginal : Ins → ℕ → World → Views → Type 0
-NeedsOriginal i at w = NeedsBoth (λ v. AllSame (used i) v.original v.shadow) (Does same same 0) (λ v. Runs w i at v.original)
+NeedsOriginal i at w = NeedsBoth (λ v. AllSame (used i) v.original v.shadow) (Does w same same 0) (λ v. Runs w i at v.original)
 
 abbrev pub GivesOriginal : Ins → ℕ → World → Views → ℕ → Views → Type 0
-GivesOriginal i at w v = Chain v (length (used i)) (Does same same 0 v) (Does step same 1)
+GivesOriginal i at w v = Chain v (length (used i)) (Does w same same 0 v) (Does w step same 1)
 
 abbrev pub LeavesOriginal : Ins → ℕ → World → Views → ℕ → Views → Type 0
-LeavesOriginal i at w v = Chain v (length (used i)) (Does same same 0 v) (λ y. none)
+LeavesOriginal i at w v = Chain v (length (used i)) (Does w same same 0 v) (λ y. none)
 
 -- the mirrors
 abbrev pub NeedsMirror : Ins → ℕ → World → Views → Type 0
 NeedsMirror i at w v = Runs w i at v.shadow
 
 abbrev pub GivesMirror : Ins → ℕ → World → Views → ℕ → Views → Type 0
-GivesMirror i at w = Does same step 0
+GivesMirror i at w = Does w same step 0
 
 abbrev pub LeavesMirror : Ins → ℕ → World → Views → ℕ → Views → Type 0
 LeavesMirror i at w v = none
@@ -59,7 +59,7 @@ LeavesMirror i at w v = none
 -- ---- the checks behind all parts
 -- both halves stay, and the comparison of all registers stands here
 abbrev pub Compares : World → Views → ℕ → Views → Type 0
-Compares w v n z = Does same same ORIGINALS v n z × ComparesFrom w.code v.now.pc originals
+Compares w v n z = Does w same same ORIGINALS v n z × ComparesFrom w.code v.now.pc originals
 
 -- both halves and the signature stay, so many words were visited, each at its place, and the cursor is at the word behind them
 pub record Rounds (w : World) (round : ℕ) (spans : List (ℕ × ℕ)) (v : Views) (n : ℕ) (z : Views) : Type 0 where
@@ -118,14 +118,15 @@ pub record Checks (w : World) (first round : ℕ) (v : Views) (n : ℕ) (z : Vie
   pub sign : reg z.now SIGNATURE ≡ reg v.now SIGNATURE
   pub checked : Checked w first round v.now n z.now
 
--- behind a piece both halves are those of the input behind its instructions, in no fewer steps, the signature stays, and the checks
--- were made
+-- behind a piece both halves are those of the input behind its instructions, in no fewer steps, the signature stays, the checks were made, and
+-- the original half came to each state of the input between
 pub record Pieced (w : World) (first round : ℕ) (is : List Ins) (s : State) (v : Views) (n : ℕ) (z : Views) : Type 0 where
   pub original : z.original ≡ run s (length is)
   pub shadow : z.shadow ≡ run s (length is)
   pub slow : length is ≤ n
   pub sign : reg z.now SIGNATURE ≡ reg v.now SIGNATURE
   pub checked : Checked w first round v.now n z.now
+  pub trail : Trail w v.now s (length is) n
 
 -- from a state of the output that has one state of the input in both halves, before a piece of the input that does not trap, in so
 -- many steps an instruction, 13, and those of the visits

@@ -2,7 +2,7 @@
 use Rattle.std.specs.Prelude.{◌≡◌, ℕ, ◌+◌, ◌≤◌, ◌⊎◌, Bool, List, [], ◌∷◌, ◌++◌}
 use Rattle.machine.specs.Walks.{Walk}
 use Rattle.qed_model.specs.Weave.Sequences.{guards, LAST_ORIGINAL, CURSOR, SIGNATURE}
-use Rattle.weave_core.specs.World.{Item, World, Quiet as Calm, State, reg, run}
+use Rattle.weave_core.specs.World.{Item, Going, World, Quiet as Calm, Twice, State, reg, run}
 use Rattle.weave_core.specs.Rows.{At}
 use Rattle.weave_core.specs.KindItems.{LockItems, LandItems}
 
@@ -35,10 +35,12 @@ pub record Chain (v : Views) (most : ℕ) (gives : ℕ → Views → Type 0) (ne
 abbrev pub NeedsBoth : (Views → Type 0) → (Views → ℕ → Views → Type 0) → (Views → Type 0) → Views → Type 0
 NeedsBoth needs gives next v = needs v × ((n : ℕ) (y : Views) → gives v n y → next y)
 
--- each half has one step of the input more or none, in `least` steps, and the cursor, the signature and the entries stay
-pub record Does (f g : State → State) (least : ℕ) (v : Views) (n : ℕ) (z : Views) : Type 0 where
+-- each half has one step of the input more or none, in `least` steps, the output holds both, and the cursor, the signature and the entries stay
+pub record Does (w : World) (f g : State → State) (least : ℕ) (v : Views) (n : ℕ) (z : Views) : Type 0 where
   pub original : z.original ≡ f v.original
   pub shadow : z.shadow ≡ g v.shadow
+  pub going : z.now.outcome ≡ Going
+  pub halved : Twice w z.now z.original z.shadow
   pub at_least : least ≤ n
   pub cursor : reg z.now CURSOR ≡ reg v.now CURSOR
   pub sign : reg z.now SIGNATURE ≡ reg v.now SIGNATURE

@@ -1,5 +1,5 @@
 -- The laws of a weave: all that the inductions over the run of the output use of its sequences.
-use Rattle.std.specs.Prelude.{◌≡◌, ℕ, ◌+◌, ◌*◌, ◌^◌, ◌<◌, ◌≤◌, ◌⊎◌, Bool, true, List, [], ◌∷◌, ◌++◌, length, is_some}
+use Rattle.std.specs.Prelude.{◌≡◌, ◌↔◌, ℕ, zero, suc, ◌+◌, ◌*◌, ◌^◌, ◌<◌, ◌≤◌, ◌⊎◌, Bool, true, List, [], ◌∷◌, ◌++◌, length, is_some}
 use Rattle.std.proofs.Common.{inl, inr}
 use Rattle.machine.specs.Walks.{Over, Walk}
 use Rattle.qed_model.specs.Promise.Kept.{NotTrapped, IsSteady}
@@ -55,6 +55,16 @@ pub record Holds (w : World) (u s : State) : Type 0 where
   pub originals : (r : ℕ) → r ≤ LAST_ORIGINAL → reg u r ≡ reg s r
   pub bytes : (q : ℕ) → is_some (get w.input q) ≡ true → byte_at u.memory q ≡ byte_at s.memory q
 
+-- it has the input's values, and has ended exactly if the input has
+pub record Met (w : World) (u s : State) : Type 0 where
+  pub holds : Holds w u s
+  pub ends : (u.outcome ≡ Ended) ↔ (s.outcome ≡ Ended)
+
+-- from u on the output comes to the input's states from s on in their order: to the one after n steps when it has made m itself
+abbrev pub Trail : World → State → State → ℕ → ℕ → Type 0
+Trail w u s zero m = Met w (run u m) s
+Trail w u s (suc n) m = (k : ℕ) × (k < m) × Trail w u s n k × Met w (run u m) (run s (suc n))
+
 -- at the entry of the input's pc
 pub record Stands (w : World) (leader : ℕ → Bool) (u s : State) : Type 0 where
   pub over : Over w.code u
@@ -72,10 +82,10 @@ pub record GoesTo (w : World) (u : State) (least most : ℕ) (Is : ℕ → State
   pub walk : Walk (Quiet w) u steps to
   pub is : Is steps to
 
--- inside a piece: the original half is n steps on
-pub record Inside (w : World) (s : State) (n : ℕ) (to : State) : Type 0 where
+-- inside a piece: k steps from u on the original half is n steps on
+pub record Inside (w : World) (u s : State) (n k : ℕ) (to : State) : Type 0 where
   pub going : to.outcome ≡ Going
-  pub holds : Holds w to (run s n)
+  pub trail : Trail w u s n k
 
 -- a visit of the word x begins within so many steps
 pub record Visits (w : World) (u : State) (steps x : ℕ) : Type 0 where
@@ -105,10 +115,10 @@ stops Falls = 0
 stops (Stops i) = 1
 
 -- ---- behind a leave, where the input is in t
--- the test has ended, with the input's values
+-- the test has ended, with the input's values in both halves
 pub record Ends (w : World) (t x : State) : Type 0 where
   pub ended : x.outcome ≡ Ended
-  pub holds : Holds w x t
+  pub halved : Twice w x t t
   pub input : t.outcome ≡ Ended
 
 -- at an entry, where a property holds with its input address, or where the input goes no further, since there is no code
@@ -132,10 +142,10 @@ pub record Rows (w : World) (v : Weave) (leader : ℕ → Bool) : Type 0 where
       → GoesTo w u 0 v.enter_steps (λ n x. At w x rest s s × (v.held w x s.pc ≡ true))
   pub inside :
       (is : List Ins) (n : ℕ) (u s : State) (rest : List Item) → n < length is → PieceAt w v s.pc is → At w u (v.code.piece is s.pc ++ rest) s s
-      → Sourced w s → NotTrapped (run s n) → GoesTo w u n v.piece_steps (λ k x. Inside w s n x)
+      → Sourced w s → NotTrapped (run s n) → GoesTo w u n v.piece_steps (λ k x. Inside w u s n k x)
   pub piece :
       (is : List Ins) (b : ℕ) (u s : State) (rest : List Item) → v.held w u b ≡ true → PieceAt w v s.pc is → At w u (v.code.piece is s.pc ++ rest) s s → Sourced w s
-      → NotTrapped (run s (length is)) → GoesTo w u (length is) v.piece_steps (λ n x. At w x rest (run s (length is)) (run s (length is)) × (v.held w x b ≡ true))
+      → NotTrapped (run s (length is)) → GoesTo w u (length is) v.piece_steps (λ n x. At w x rest (run s (length is)) (run s (length is)) × (v.held w x b ≡ true) × Trail w u s (length is) n)
   pub leave :
       ((a : ℕ) → leader a ≡ true → IsEntryOf w a) → (e : End) (b : ℕ) (u s : State) → v.held w u b ≡ true → v.ends_at e b s.pc ≡ true → At w u (v.code.leave e s.pc) s s
       → Sourced w s → EndStands w leader e s.pc → IsSteady w.reached s (stops e) → Left w v leader u (run s (stops e)) (stops e)

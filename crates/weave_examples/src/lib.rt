@@ -33,7 +33,7 @@ impl Pass for CompareOne {
 
     ghost needs = { λ p i at w v. v.original ≡ v.shadow };
 
-    ghost gives = { λ p i at w. Does same same 0 };
+    ghost gives = { λ p i at w. Does w same same 0 };
 
     ghost leaves = { λ p i at w v n z. ⊥ };
 
