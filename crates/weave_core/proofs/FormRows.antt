@@ -197,13 +197,13 @@ module _ (w : World) (most : ℕ) (checks : List Item) (first steps : ℕ) (laws
     -- ---- a piece
     inside_law :
         (is : List Ins) (n : ℕ) (u s : State) (rest : List Item) → n < length is → PieceAt w v s.pc is → At w u (v.code.piece is s.pc ++ rest) s s
-        → Sourced w s → NotTrapped (run s n) → GoesTo w u n v.piece_steps (λ k x. Inside w u s n k x)
+        → Sourced w s → NotTrapped (run s n) → GoesTo w u n v.piece_steps (λ k x. Inside w u s n k x × (k < v.piece_steps))
     inside_law is n u s rest l p a so calm =
         let both = and_parts _ _ p.one in
-        let few : 3 * n ≤ w.form.cost * most = mul-le-mul law.enough (let h = leb-true (length is) most both.1 in omega (arith, h, l)) in
+        let few : 3 * suc n ≤ w.form.cost * most = mul-le-mul law.enough (let h = leb-true (length is) most both.1 in omega (arith, h, l)) in
         let shape = append_assoc (each_part original is s.pc) (each_part w.form.mirror is s.pc ++ checks) rest in
         let g = front_row w is n u s ((each_part w.form.mirror is s.pc ++ checks) ++ rest) l p.fit both.0 p.has (subst (λ k. At w u k s s) shape a) so calm in
-        record { steps = g.steps; to = g.to; at_least = g.at_least; within = omega (arith, g.within, few); walk = g.walk; is = g.is }
+        record { steps = g.steps; to = g.to; at_least = g.at_least; within = omega (arith, g.within, few); walk = g.walk; is = (g.is, omega (arith, g.within, few)) }
 
     piece_law :
         (is : List Ins) (b : ℕ) (u s : State) (rest : List Item) → v.held w u b ≡ true → PieceAt w v s.pc is → At w u (v.code.piece is s.pc ++ rest) s s

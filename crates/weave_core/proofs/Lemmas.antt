@@ -1,5 +1,5 @@
 -- The laws that proofs of other crates cite.
-pub use Rattle.weave_core.proofs.Rows.{compute_walk, flagged_moved, halved_moved, halved_original, halved_pair, halved_regs, halved_views, led_more, led_none, led_on, pair_value, pc_four, quiet_as, signed_other}
+pub use Rattle.weave_core.proofs.Rows.{compute_walk, flagged_moved, halved_moved, halved_input, halved_original, halved_pair, halved_regs, halved_views, led_more, led_none, led_on, pair_value, pc_four, quiet_as, signed_other}
 pub use Rattle.weave_core.proofs.Sized.{sized_step, small_put, width_le}
 pub use Rattle.weave_core.proofs.Words.{all_small, compare_stands}
 pub use Rattle.weave_core.proofs.Source.{has_front, not_trapped_front, not_trapped_le, source_run, steady_le, steady_rest}
@@ -11,9 +11,11 @@ pub use Rattle.weave_core.proofs.Visit.{add_result, checked_behind, cursor_decid
 pub use Rattle.weave_core.proofs.Body.{auipc_is, mirror_steps_le, mirrored_part, spent_le}
 pub use Rattle.weave_core.proofs.Indirect.{Leaps, Tabled, addi_value, aim, andi_value, entry_leap, find, found, leap_step, leap_there, linked, linked_out, links_sets, look_walk, looked_keeps, table_load, table_word, tabled, word}
 pub use Rattle.weave_core.proofs.Endings.{guards_pass, visit_more}
-pub use Rattle.weave_core.proofs.Trace.{full_rest, none_run, one_run, run-ended, trace}
+pub use Rattle.weave_core.proofs.Trails.{feeds_first, feeds_less, feeds_on, holds_of, met_ended, met_going, met_same, trail_first, trail_later, trail_met, trail_none, trail_on, trail_one}
+pub use Rattle.weave_core.proofs.Trace.{full_rest, none_run, one_run, run-ended, stops_few, trace, trail_leave}
+pub use Rattle.weave_core.proofs.Feeds.{piece_steady, steady_none}
 pub use Rattle.weave_core.proofs.Prologue.{begin_row}
-pub use Rattle.weave_core.proofs.Values.{WeaveIn, ended_fired, going_ended, going_fired, kept, plan_in, quiet_at, weave_kept}
+pub use Rattle.weave_core.proofs.Values.{WeaveIn, ended_fired, feeds_at, going_ended, going_fired, in_step, kept, plan_in, quiet_at, quiet_before, soon_there, weave_kept}
 pub use Rattle.weave_core.proofs.Placing.{unmarked_append}
 pub use Rattle.weave_core.proofs.Marks.{Ascend, behind, code_distinct, entry_or_stub, rows_are, unmarked_behind, unmarked_cond, unmarked_each, unmarked_form, unmarked_guard, unmarked_guards, unmarked_links, unmarked_original, unmarked_prologue, unmarked_sweep, unmarked_visit, unmarked_zero}
 pub use Rattle.weave_core.proofs.Diverse.{diverse_mirrors, diverse_row, operates_class}
@@ -42,7 +44,7 @@ pub use Rattle.weave_core.proofs.DiverseFit.{diverse_mirrors_fit}
 pub use Rattle.weave_core.proofs.Entries.{first_sourced, reads_front, reads_rest}
 pub use Rattle.weave_core.proofs.Compose.{each_same, leads_led, lockstep_alone, lockstep_each, lockstep_guarded, lockstep_then, quiet_each, quiet_guarded, quiet_guards, quiet_then}
 pub use Rattle.weave_core.proofs.PartLaws.{lockstep_mirror, lockstep_original, quiet_compare, quiet_mirrored, quiet_original, quiet_visit, straight_bare}
-pub use Rattle.weave_core.proofs.PieceLaws.{both_checks, cost_parts, for_mirrors, for_originals, gives_mirrors, gives_originals, guarded_original, needs_mirrors, needs_originals, never_mirrors, never_originals, parts_are, piece_leads, used_low}
+pub use Rattle.weave_core.proofs.PieceLaws.{both_checks, cost_parts, for_mirrors, for_originals, gives_mirrors, gives_originals, guarded_original, needs_mirrors, needs_originals, originals_trail, never_mirrors, never_originals, parts_are, piece_leads, used_low}
 pub use Rattle.weave_core.proofs.LeaveLaws.{quiet_enter, quiet_leave, quiet_sweep}
 pub use Rattle.weave_core.proofs.FormRows.{NeedsOther, both, both_steps, checks_after, each_plus, form_checks, form_guarded, form_rows, form_starts, front_row, goes_is, held_is, held_parts, kept_with, lockstep_piece, other_cost, plus, quiet_front, quiet_other, rows_with, starts_with}
 pub use Rattle.weave_core.proofs.Landings.{Standing, standing_at, standing_run, standing_step, weave_landed}

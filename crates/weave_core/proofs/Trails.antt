@@ -2,7 +2,9 @@
 use Rattle.std.proofs.Common.{◌≡◌, ℕ, zero, suc, ◌+◌, ◌<◌, ◌≤◌, refl, sym, ap, ◌∙◌, subst, arith}
 use Rattle.machine.proofs.Lemmas.{run-more, run-none, run-one}
 use Rattle.weave_core.specs.World.{World, Outcome, Going, Ended, State, Twice, run}
-use Rattle.weave_core.specs.WeaveLaws.{Holds, Met, Trail}
+use Rattle.qed_model.specs.Promise.Kept.{IsSteady}
+use Rattle.weave_core.specs.WeaveLaws.{Holds, Met, Trail, Feeds}
+use Rattle.weave_core.proofs.Source.{steady_rest}
 
 -- an outcome is not two
 pub going_ended : (o : Outcome) → o ≡ Going → o ≡ Ended → ⊥
@@ -57,6 +59,22 @@ module _ (w : World) where
   pub trail_first : (u x s : State) (m : ℕ) → run u m ≡ x → (n m' : ℕ) → Trail w x s n m' → Trail w u s n (m + m')
   trail_first u x s m e zero m' b = met_same (run u (m + m')) (run x m') s s (run-more u m m' ∙ ap (λ y. run y m') e) refl b
   trail_first u x s m e (suc n) m' b = (m + b.0, omega (arith, b.1), trail_first u x s m e n b.0 b.2, met_same (run u (m + m')) (run x m') (run s (suc n)) (run s (suc n)) (run-more u m m' ∙ ap (λ y. run y m') e) refl b.3)
+
+  -- ---- the input is steady as long as the output has made fewer steps than so many
+  pub feeds_less : (u s : State) (r room : ℕ) → r ≤ room → Feeds w u s room → Feeds w u s r
+  feeds_less u s r room l f = record { more = λ n m t h. f.more n m t (omega (arith, h, l)) }
+
+  -- behind a walk
+  pub feeds_first : (u s x : State) (m room : ℕ) → run u m ≡ x → Feeds w u s (m + room) → Feeds w x s room
+  feeds_first u s x m room e f = record { more = λ n k t h. f.more n (m + k) (trail_first u x s m e n k t) (omega (arith, h)) }
+
+  -- behind a trail
+  pub feeds_on : (u s x t : State) (k m room : ℕ) → run u m ≡ x → run s k ≡ t → Trail w u s k m → Feeds w u s (m + room) → Feeds w x t room
+  feeds_on u s x t k m room eu es a f = record {
+    more = λ n j b h.
+        let e : suc (k + n) ≡ k + suc n = omega arith in
+        subst (λ y. IsSteady w.reached y (suc n)) es (steady_rest w.reached s k (suc n) (subst (IsSteady w.reached s) e (f.more (k + n) (m + j) (trail_on u s x t k m eu es a n j (k + n) refl b) (omega (arith, h)))));
+  }
 
   -- one step of the input in some steps
   pub trail_one : (u s : State) (m : ℕ) → 1 ≤ m → Met w u s → Met w (run u m) (run s 1) → Trail w u s 1 m

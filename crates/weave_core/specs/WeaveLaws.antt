@@ -65,6 +65,10 @@ abbrev pub Trail : World → State → State → ℕ → ℕ → Type 0
 Trail w u s zero m = Met w (run u m) s
 Trail w u s (suc n) m = (k : ℕ) × (k < m) × Trail w u s n k × Met w (run u m) (run s (suc n))
 
+-- as long as the output has made fewer than `room` steps from u, the input's next step from s on is steady
+pub record Feeds (w : World) (u s : State) (room : ℕ) : Type 0 where
+  pub more : (n m : ℕ) → Trail w u s n m → m < room → IsSteady w.reached s (suc n)
+
 -- at the entry of the input's pc
 pub record Stands (w : World) (leader : ℕ → Bool) (u s : State) : Type 0 where
   pub over : Over w.code u
@@ -142,7 +146,7 @@ pub record Rows (w : World) (v : Weave) (leader : ℕ → Bool) : Type 0 where
       → GoesTo w u 0 v.enter_steps (λ n x. At w x rest s s × (v.held w x s.pc ≡ true))
   pub inside :
       (is : List Ins) (n : ℕ) (u s : State) (rest : List Item) → n < length is → PieceAt w v s.pc is → At w u (v.code.piece is s.pc ++ rest) s s
-      → Sourced w s → NotTrapped (run s n) → GoesTo w u n v.piece_steps (λ k x. Inside w u s n k x)
+      → Sourced w s → NotTrapped (run s n) → GoesTo w u n v.piece_steps (λ k x. Inside w u s n k x × (k < v.piece_steps))
   pub piece :
       (is : List Ins) (b : ℕ) (u s : State) (rest : List Item) → v.held w u b ≡ true → PieceAt w v s.pc is → At w u (v.code.piece is s.pc ++ rest) s s → Sourced w s
       → NotTrapped (run s (length is)) → GoesTo w u (length is) v.piece_steps (λ n x. At w x rest (run s (length is)) (run s (length is)) × (v.held w x b ≡ true) × Trail w u s (length is) n)
