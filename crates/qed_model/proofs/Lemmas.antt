@@ -20,5 +20,6 @@ pub use Rattle.qed_model.proofs.OneTest.{any_reached, reached_by}
 pub use Rattle.qed_model.proofs.Parts.{joined_append, lean_are, parts_are, roles_cover, to_stub_joined}
 pub use Rattle.qed_model.proofs.OutputFits.{length-map_bytes, local_pairs, locals, map_placed, name_at, names_fit, not_null, others, symbols_fit}
 pub use Rattle.qed_model.proofs.Steady.{steady_any}
+pub use Rattle.qed_model.proofs.Following.{covers_less, covers_steady, promises_follow}
 pub use Rattle.qed_model.proofs.Arrivals.{Marks, arrives, arrived, arrival_grows, arrival_within, arrival_order, values_from, values_are}
 pub use Rattle.qed_model.proofs.OneOutput.{one_woven_test, same_words}

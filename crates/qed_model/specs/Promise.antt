@@ -6,3 +6,4 @@ pub mod Closed
 pub mod Changed
 pub mod Caught
 pub mod Clean
+pub mod InStep

@@ -1,4 +1,5 @@
 //! What the definitions say of each other.
+ghost use Rattle.qed_model.specs.Promise.InStep.{PromisesFollow};
 ghost use Rattle.qed_model.specs.Weave.Output.{InputHasOneOutput};
 ghost use Rattle.qed_model.specs.Weave.Woven.{RolesCover};
 
@@ -10,4 +11,11 @@ pub fn input_has_one_output()
 /// Each item of the new code has one role, in either form.
 pub fn roles_cover()
     ensures { RolesCover }
+{}
+
+/// What is promised as far as the input is steady for its own steps holds also as far as it is steady for as many steps as the output
+/// makes.
+#[tactic(auto, using(crate::proofs::Following::promises_follow))]
+pub fn promises_follow()
+    ensures { PromisesFollow }
 {}
