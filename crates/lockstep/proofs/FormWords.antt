@@ -1,5 +1,5 @@
 -- Today's forms meet the laws of the words and of the entry, and so the promises of a plan follow from those of any weave.
-use Rattle.std.proofs.Common.{◌≡◌, ℕ, zero, suc, ◌+◌, ◌*◌, ◌≤◌, List, [], ◌∷◌, ◌++◌, length, refl, ap, ◌∙◌, arith}
+use Rattle.std.proofs.Common.{◌≡◌, ℕ, zero, suc, ◌+◌, ◌*◌, ◌≤◌, List, [], ◌∷◌, ◌++◌, length, refl, sym, ap, ◌∙◌, subst, arith}
 use Rattle.std.proofs.Math.Nat.{mul-le-mul}
 use Rattle.qed_model.specs.Weave.Bounds.{visit_bound, word_bound}
 use Rattle.tests.specs.Admission.DataRanges.{word_count}
@@ -10,10 +10,11 @@ use Rattle.weave_core.specs.KindItems.{MirrorsFit}
 use Rattle.weave_core.proofs.Lemmas.{enter_items, end_items, prologue_items, land_enter, land_end, land_prologue, lockstep_piece, both, both_steps, form_checks, rows_with, starts_with, form_rows, form_starts}
 use Rattle.lockstep.specs.Closes.{Closes}
 use Rattle.lockstep.specs.Promise.{IsBoundsOf, PlanCaught, PlanClean}
-use Rattle.weave_core.specs.Weave.{stage_steps}
+use Rattle.weave_core.specs.Leaving.{sweep_cost}
+use Rattle.weave_core.specs.Weave.{stage_steps, start_steps}
 use Rattle.weave_core.specs.WeaveLaws.{Words}
 use Rattle.qed_model.specs.declared.bounds.Bounds.{Bounds}
-use Rattle.qed_model.specs.Promise.Caught.{Caught}
+use Rattle.qed_model.specs.Promise.InStep.{CaughtInStep, CleanInStep}
 use Rattle.weave_core.specs.World.{World, Item, Program}
 use Rattle.weave_core.specs.Rows.{Mirrors}
 use Rattle.weave_core.specs.WeavePromise.{PlanOf, OnlyCode, BoundsOf}
@@ -44,7 +45,8 @@ pub caught_with :
     (f g : Program) (w : World) (most : ℕ) (checks : List Item) (first steps : ℕ) (blocks : List Block) (bounds : Bounds) → ChecksLaws w.form checks first steps
     → PlanOf f g w (weave_with w.form most checks first steps) blocks → Mirrors w → MirrorsFit w.form.far w.form.mirror
     → OnlyCode f g w (weave_with w.form most checks first steps).code blocks → 1 ≤ w.form.round → first + 17 ≤ steps
-    → BoundsOf w (weave_with w.form most checks first steps) bounds → Caught f g w.reached w.form.spans bounds
+    → BoundsOf w (weave_with w.form most checks first steps) bounds
+    → CaughtInStep f g w.reached w.form.spans bounds (start_steps (weave_with w.form most checks first steps)) (stage_steps (weave_with w.form most checks first steps))
 caught_with f g w most checks first steps blocks bounds laws p law fit closed some room b =
     weave_caught f g w (weave_with w.form most checks first steps) blocks bounds p (rows_with w most checks first steps laws (begins_at blocks) law) (starts_with w most checks first steps laws (begins_at blocks) f g) (words_with w.form most checks first steps laws fit) closed some (omega arith) (omega (arith, room)) b
 
@@ -59,25 +61,32 @@ visits_ten spans n h = mul-le-mul (ten spans) h where
   ten [] = omega arith
   ten (r ∷ rs) = some (word_count (r ∷ rs)) (length (r ∷ rs)) (omega arith)
 
+-- the steps of a form are those of its weave
+pub stage_is : (w : World) (most : ℕ) → piece_of w.form most ≡ stage_steps (weave_of w.form most)
+stage_is w most = omega arith
+
+pub start_is : (w : World) (most : ℕ) → start_of w.form ≡ start_steps (weave_of w.form most)
+start_is w most = omega arith
+
 -- the bounds of a form are those of its weave
 pub bounds_in : (w : World) (most : ℕ) (bounds : Bounds) → IsBoundsOf w.form most bounds → BoundsOf w (weave_of w.form most) bounds
 bounds_in w most bounds b = record {
-  register = b.register ∙ ap (λ n. start_of w.form + 2 * n) stage;
-  word = b.word ∙ ap (λ n. word_bound (word_count w.form.spans) w.form.round (start_of w.form) n) stage;
-} where
-  stage : piece_of w.form most ≡ stage_steps (weave_of w.form most)
-  stage = omega arith
+  register = b.register ∙ ap (λ n. start_of w.form + 2 * n) (stage_is w most);
+  word = b.word ∙ ap (λ n. word_bound (word_count w.form.spans) w.form.round (start_of w.form) n) (stage_is w most);
+}
 
 -- changes in a plan are caught
 pub plan_caught : PlanCaught
 plan_caught f g w most blocks bounds p law closes some b =
     let ten = visits_ten w.form.spans w.form.round some in
-    caught_with f g w most (both w most) 0 (both_steps w most) blocks bounds (form_checks w.form) p law closes.mirrors closes.only some (omega (arith, ten)) (bounds_in w most bounds b)
+    subst (λ n. CaughtInStep f g w.reached w.form.spans bounds n (piece_of w.form most)) (sym (start_is w most))
+    (subst (λ n. CaughtInStep f g w.reached w.form.spans bounds (start_steps (weave_of w.form most)) n) (sym (stage_is w most))
+    (caught_with f g w most (both w most) 0 (both_steps w most) blocks bounds (form_checks w.form) p law closes.mirrors closes.only some (omega (arith, ten)) (bounds_in w most bounds b)))
 
 -- also such at places that are open for Lock alone
 pub plan_caught_all :
     (f g : Program) (w : World) (most : ℕ) (blocks : List Block) (bounds : Bounds) → PlanOf f g w (weave_of w.form most) blocks → Mirrors w → Closes f g w blocks → 1 ≤ w.form.round → IsBoundsOf w.form most bounds
-    → CaughtAll f g w bounds
+    → CaughtAll f g w (start_steps (weave_of w.form most)) (stage_steps (weave_of w.form most)) bounds
 plan_caught_all f g w most blocks bounds p law closes some b =
     let ten = visits_ten w.form.spans w.form.round some in
     catches_all f g w (weave_of w.form most) blocks p (form_rows w most (begins_at blocks) law) (form_starts w most (begins_at blocks) f g) (form_words w.form most closes.mirrors) closes.only some (omega arith) (omega (arith, ten)) bounds (bounds_in w most bounds b)
@@ -86,4 +95,7 @@ plan_caught_all f g w most blocks bounds p law closes some b =
 pub plan_clean : PlanClean
 plan_clean f g w most blocks p law closes some sweeps =
     let ten = visits_ten w.form.spans w.form.round some in
-    weave_clean f g w (weave_of w.form most) blocks p (form_rows w most (begins_at blocks) law) (form_starts w most (begins_at blocks) f g) (form_words w.form most closes.mirrors) closes.only some (omega arith) (omega (arith, ten)) sweeps
+    let last = sweep_cost w.form.spans + 14 in
+    subst (λ n. CleanInStep f g w.reached w.form.spans last n (piece_of w.form most)) (sym (start_is w most))
+    (subst (λ n. CleanInStep f g w.reached w.form.spans last (start_steps (weave_of w.form most)) n) (sym (stage_is w most))
+    (weave_clean f g w (weave_of w.form most) blocks p (form_rows w most (begins_at blocks) law) (form_starts w most (begins_at blocks) f g) (form_words w.form most closes.mirrors) closes.only some (omega arith) (omega (arith, ten)) sweeps))

@@ -5,10 +5,11 @@ use Rattle.std.proofs.lemmas.Option.{same_Some}
 use Rattle.qed_model.specs.declared.bounds.Bounds.{Bounds}
 use Rattle.qed_model.specs.declared.change.Change.{Change}
 use Rattle.machine.specs.declared.place.Place.TheVariants.{Reg, Word}
-use Rattle.tests.specs.Admission.DataRanges.{word_count}
+use Rattle.tests.specs.Admission.DataRanges.{data_ranges, word_count}
 use Rattle.machine.specs.Struck.{struck}
 use Rattle.qed_model.specs.Promise.Changed.{changed_run, IsDataWord}
-use Rattle.qed_model.specs.Promise.Kept.{Steady}
+use Rattle.qed_model.specs.Promise.OwnSteps.{Covers}
+use Rattle.qed_model.specs.Promise.InStep.{SettlesWithin}
 use Rattle.qed_model.specs.Weave.Blocks.{begins_at}
 use Rattle.qed_model.specs.Weave.Bounds.{word_bound}
 use Rattle.qed_model.specs.Weave.Sequences.{Block, Ins}
@@ -18,14 +19,17 @@ use Rattle.weave_core.specs.Lock.{span_bytes, Opens, HasKind, Undisturbed}
 use Rattle.weave_core.specs.WeavePromise.{PlanOf, BoundsOf}
 use Rattle.weave_core.specs.WeaveForms.{weave_of}
 use Rattle.weave_core.specs.Rows.{Mirrors}
+use Rattle.weave_core.specs.Promise.{piece_of, start_of}
 use Rattle.weave_core.specs.Weave.{start_steps, stage_steps}
+use Rattle.machine.specs.Loading.{loaded_file}
+use Rattle.tests.specs.Admission.Places.{image_of}
 use Rattle.weave_core.specs.World.{World, Going, put, number, Program, start, AreStartRegs, State, reg, moved, stored, next_pc, place, Known, next, step, run, Kind, Lb, set_reg, width_of}
 use Rattle.weave_core.proofs.Lemmas.{mirrors_of, form_rows, form_starts, width_le, known_same}
 use Rattle.weave_core.proofs.TestKept as kept
 use Rattle.lockstep.specs.Closes.{Closes}
-use Rattle.lockstep.specs.InstructionFaults.{WritesOriginal, StoresOriginal, word_around, GivesAny, StoresAny, FoundOut, FaultsFound, InstructionFaultsAreCaught}
+use Rattle.lockstep.specs.InstructionFaults.{WritesOriginal, StoresOriginal, word_around, GivesAny, StoresAny, FaultsFound, InstructionFaultsAreCaught}
 use Rattle.lockstep.specs.Promise.{IsBoundsOf}
-use Rattle.lockstep.proofs.FormWords.{form_words, bounds_in, plan_caught_all}
+use Rattle.lockstep.proofs.FormWords.{form_words, bounds_in, plan_caught_all, stage_is, start_is}
 use Rattle.lockstep.proofs.Promise.{CaughtAll}
 use Rattle.lockstep.specs.Laws.{OpenAt}
 use Rattle.lockstep.proofs.Made.{changed_later}
@@ -50,20 +54,20 @@ big_word (suc n) round first piece b h e =
     let m : 1 * 2 ≤ ((suc n + round - 1) / round + 2) * piece = mul-le-mul one h in
     omega (arith, is, m)
 
-module _ (f g : Program) (w : World) (code : CalmCode f g w) (bounds : Bounds) (big : 2 ≤ bounds.register) (wide : (b : ℕ) → bounds.word ≡ Some b → 2 ≤ b) (caught : CaughtAll f g w bounds) (regs : List ℕ) (are : AreStartRegs regs) (n : ℕ) (i : Ins) (go : (run (start g regs) n).outcome ≡ Going) (at : next (run (start g regs) n) ≡ Known i) where
+module _ (f g : Program) (w : World) (before per : ℕ) (code : CalmCode f g w before per) (bounds : Bounds) (big : 2 ≤ bounds.register) (wide : (b : ℕ) → bounds.word ≡ Some b → 2 ≤ b) (caught : CaughtAll f g w before per bounds) (regs : List ℕ) (are : AreStartRegs regs) (n : ℕ) (i : Ins) (go : (run (start g regs) n).outcome ≡ Going) (at : next (run (start g regs) n) ≡ Known i) where
   abbrev u : State
   u = run (start g regs) n
 
   -- the run is quiet here
-  quiet_here : (b : ℕ) → 2 ≤ b → Steady f w.reached (n + 1 + b) → Undisturbed w.code (span_bytes w.form.spans) (run (start g regs) n)
-  quiet_here b big steady = (quiet_run f g w code regs are (n + 1 + b) steady).each n (omega (arith, big)) go
+  quiet_here : (b : ℕ) → 2 ≤ b → Covers f g w.reached before per regs (n + 1 + b) → Undisturbed w.code (span_bytes w.form.spans) (run (start g regs) n)
+  quiet_here b big steady = (quiet_run f g w before per code regs are (n + 1 + b) steady).each n (omega (arith, big)) go
 
   -- the instruction is of a kind
   fits : Undisturbed w.code (span_bytes w.form.spans) (run (start g regs) n) → HasKind w.code (run (start g regs) n).pc i
-  fits q = subst (HasKind w.code (run (start g regs) n).pc) (known_same (sym q.quiet.known ∙ sym ((loaded_at f g w code regs are n).code (run (start g regs) n).pc) ∙ at)) q.quiet.fits
+  fits q = subst (HasKind w.code (run (start g regs) n).pc) (known_same (sym q.quiet.known ∙ sym ((loaded_at f g w before per code regs are n).code (run (start g regs) n).pc) ∙ at)) q.quiet.fits
 
   -- another number
-  results : (o : State) → WritesOriginal i → GivesAny i (run (start g regs) n) o → Steady f w.reached (n + 1 + bounds.register) → FoundOut w.form.spans bounds.register o (λ k. run (start g regs) (n + 1 + k))
+  results : (o : State) → WritesOriginal i → GivesAny i (run (start g regs) n) o → Covers f g w.reached before per regs (n + 1 + bounds.register) → SettlesWithin w.form.spans 0 bounds.register (run o) (λ k. run (start g regs) (n + 1 + k))
   results o wr any steady =
       let q = quiet_here bounds.register big steady in
       let did = wrote i u go at wr q.quiet.no_trap in
@@ -72,7 +76,7 @@ module _ (f g : Program) (w : World) (code : CalmCode f g w) (bounds : Bounds) (
         -- as a change of its register
         change :
             (x : ℕ) → Undisturbed w.code (span_bytes w.form.spans) (run (start g regs) n) → Wrote i (run (start g regs) n)
-            → o ≡ struck (Reg i.rd) x (step (run (start g regs) n)) → FoundOut w.form.spans bounds.register o (λ k. run (start g regs) (n + 1 + k))
+            → o ≡ struck (Reg i.rd) x (step (run (start g regs) n)) → SettlesWithin w.form.spans 0 bounds.register (run o) (λ k. run (start g regs) (n + 1 + k))
         change x q did st =
             let next_is : run (start g regs) (n + 1) ≡ moved (set_reg i.rd did.number (run (start g regs) n).regs) (next_pc (run (start g regs) n)) (run (start g regs) n) = run-last (start g regs) n ∙ did.is in
             let going : (run (start g regs) (n + 1)).outcome ≡ Going = ap (λ y. y.outcome) next_is ∙ go in
@@ -87,23 +91,23 @@ module _ (f g : Program) (w : World) (code : CalmCode f g w) (bounds : Bounds) (
             found_out w.form.spans (start g regs) (changed_run (start g regs) (record { step = n + 1; place = Reg i.rd; value = x } ∷ [])) o (n + 1) bounds.register going
             (λ k h. unchanged_before (start g regs) (record { step = n + 1; place = Reg i.rd; value = x } ∷ []) k (h, tt))
             (λ k. changed_later (start g regs) (n + 1) k (record { step = n + 1; place = Reg i.rd; value = x } ∷ []) (omega arith, tt) ∙ ap (λ y. run y k) there)
-            (caught.settles regs (record { step = n + 1; place = Reg i.rd; value = x } ∷ []) bounds.register are tt ((wr.some, wr.low), free, tt) refl steady)
+            (caught.settles regs (record { step = n + 1; place = Reg i.rd; value = x } ∷ []) bounds.register are tt ((wr.some, wr.low), free, tt) refl steady going)
 
   -- other bytes
-  stores : (o : State) (b : ℕ) → StoresOriginal w.form.spans i (run (start g regs) n) → StoresAny i (run (start g regs) n) o → bounds.word ≡ Some b → Steady f w.reached (n + 1 + b) → FoundOut w.form.spans b o (λ k. run (start g regs) (n + 1 + k))
+  stores : (o : State) (b : ℕ) → StoresOriginal w.form.spans i (run (start g regs) n) → StoresAny i (run (start g regs) n) o → bounds.word ≡ Some b → Covers f g w.reached before per regs (n + 1 + b) → SettlesWithin w.form.spans 0 b (run o) (λ k. run (start g regs) (n + 1 + k))
   stores o b so any bound steady =
       let q = quiet_here b (wide b bound) steady in
-      change (stored_step i u go at so.stores q.quiet.no_trap) (any_beside i u o (loaded_at f g w code regs are n).small any) where
+      change (stored_step i u go at so.stores q.quiet.no_trap) (any_beside i u o (loaded_at f g w before per code regs are n).small any) where
         -- as changes of two words
         change :
             step (run (start g regs) n) ≡ stored (put (run (start g regs) n).memory (place i (run (start g regs) n)) (width_of i.kind) (reg (run (start g regs) n) i.rs2)) (next_pc (run (start g regs) n)) (run (start g regs) n)
-            → IsBeside i (run (start g regs) n) o → FoundOut w.form.spans b o (λ k. run (start g regs) (n + 1 + k))
+            → IsBeside i (run (start g regs) n) o → SettlesWithin w.form.spans 0 b (run o) (λ k. run (start g regs) (n + 1 + k))
         change did by =
             let first = word_around (place i (run (start g regs) n)) in
             let last = word_around (place i (run (start g regs) n) + width_of i.kind - 1) in
             let y = number by.memory (word_around (place i (run (start g regs) n))) 8 in
             let z = number by.memory (word_around (place i (run (start g regs) n) + width_of i.kind - 1)) 8 in
-            two_changes first last y z so.first so.last did by.is (two_words (run (start g regs) n).memory by.memory (place i (run (start g regs) n)) (width_of i.kind) (reg (run (start g regs) n) i.rs2) (width_some i.kind) (width_le i.kind) (omega (arith, ends, width_some i.kind)) (omega (arith, ends)) by.beside (loaded_at f g w code regs are n).keys) where
+            two_changes first last y z so.first so.last did by.is (two_words (run (start g regs) n).memory by.memory (place i (run (start g regs) n)) (width_of i.kind) (reg (run (start g regs) n) i.rs2) (width_some i.kind) (width_le i.kind) (omega (arith, ends, width_some i.kind)) (omega (arith, ends)) by.beside (loaded_at f g w before per code regs are n).keys) where
               -- the last word ends before the end of all addresses
               ends : word_around (place i (run (start g regs) n) + width_of i.kind - 1) + 8 ≤ 2 ^ 64
               ends = let low = word_below w.form.spans (word_around (place i (run (start g regs) n) + width_of i.kind - 1)) (w.base + w.distance) w.spans_low so.last in omega (arith, low, w.layout.top)
@@ -113,7 +117,7 @@ module _ (f g : Program) (w : World) (code : CalmCode f g w) (bounds : Bounds) (
                   → step (run (start g regs) n) ≡ stored (put (run (start g regs) n).memory (place i (run (start g regs) n)) (width_of i.kind) (reg (run (start g regs) n) i.rs2)) (next_pc (run (start g regs) n)) (run (start g regs) n)
                   → o ≡ stored by.memory (next_pc (run (start g regs) n)) (run (start g regs) n)
                   → put (put (put (run (start g regs) n).memory (place i (run (start g regs) n)) (width_of i.kind) (reg (run (start g regs) n) i.rs2)) first 8 y) last 8 z ≡ by.memory
-                  → FoundOut w.form.spans b o (λ k. run (start g regs) (n + 1 + k))
+                  → SettlesWithin w.form.spans 0 b (run o) (λ k. run (start g regs) (n + 1 + k))
               two_changes first last y z df dl did is mem =
                   let c : Change = record { step = n + 1; place = Word first; value = y } in
                   let d : Change = record { step = n + 1; place = Word last; value = z } in
@@ -128,24 +132,27 @@ module _ (f g : Program) (w : World) (code : CalmCode f g w) (bounds : Bounds) (
                   found_out w.form.spans (start g regs) (changed_run (start g regs) (c ∷ d ∷ [])) o (n + 1) b going
                   (λ k h. unchanged_before (start g regs) (c ∷ d ∷ []) k (h, (h, tt)))
                   (λ k. changed_later (start g regs) (n + 1) k (c ∷ d ∷ []) (omega arith, (omega arith, tt)) ∙ ap (λ x. run x k) there)
-                  (caught.settles regs (c ∷ d ∷ []) b are (omega arith, tt) (df, tt, (dl, tt, tt)) bound steady)
+                  (caught.settles regs (c ∷ d ∷ []) b are (omega arith, tt) (df, tt, (dl, tt, tt)) bound steady going)
 
 -- ---- where changes are caught
 pub faults_found :
-    (f g : Program) (w : World) (bounds : Bounds) → CalmCode f g w → 2 ≤ bounds.register → ((b : ℕ) → bounds.word ≡ Some b → 2 ≤ b) → CaughtAll f g w bounds
-    → FaultsFound f g w.reached w.form.spans bounds
-faults_found f g w bounds code big wide caught = record {
-  results = λ regs n i o are go at wr any steady. results f g w code bounds big wide caught regs are n i go at o wr any steady;
-  stores = λ regs n x i o are go at so any bound steady. stores f g w code bounds big wide caught regs are n i go at o x so any bound steady;
+    (f g : Program) (w : World) (before per : ℕ) (bounds : Bounds) → CalmCode f g w before per → 2 ≤ bounds.register → ((b : ℕ) → bounds.word ≡ Some b → 2 ≤ b) → CaughtAll f g w before per bounds
+    → FaultsFound f g w.reached w.form.spans bounds before per
+faults_found f g w before per bounds code big wide caught = record {
+  results = λ regs n i o are go at wr any steady. results f g w before per code bounds big wide caught regs are n i go at o wr any steady;
+  stores = λ regs n x i o are go at so any bound steady. stores f g w before per code bounds big wide caught regs are n i go at o x so any bound steady;
 }
 
 -- ---- in a plan of a form
 pub plan_faults :
     (f g : Program) (w : World) (most : ℕ) (blocks : List Block) (bounds : Bounds) → PlanOf f g w (weave_of w.form most) blocks → Mirrors w → Closes f g w blocks → 1 ≤ w.form.round → IsBoundsOf w.form most bounds
-    → FaultsFound f g w.reached w.form.spans bounds
-plan_faults f g w most blocks bounds p law closes some b = faults_found f g w bounds code big wide (plan_caught_all f g w most blocks bounds p law closes some b) where
-  code : CalmCode f g w
-  code = calm_plan f g w (weave_of w.form most) blocks p (form_rows w most (begins_at blocks) law).rows (form_starts w most (begins_at blocks) f g) (form_words w.form most closes.mirrors) closes.only
+    → FaultsFound f g w.reached w.form.spans bounds (start_of w.form) (piece_of w.form most)
+plan_faults f g w most blocks bounds p law closes some b =
+    subst (λ n. FaultsFound f g w.reached w.form.spans bounds n (piece_of w.form most)) (sym (start_is w most))
+    (subst (λ n. FaultsFound f g w.reached w.form.spans bounds (start_steps (weave_of w.form most)) n) (sym (stage_is w most))
+    (faults_found f g w (start_steps (weave_of w.form most)) (stage_steps (weave_of w.form most)) bounds code big wide (plan_caught_all f g w most blocks bounds p law closes some b))) where
+  code : CalmCode f g w (start_steps (weave_of w.form most)) (stage_steps (weave_of w.form most))
+  code = calm_plan f g w (weave_of w.form most) blocks p (form_rows w most (begins_at blocks) law).rows (form_starts w most (begins_at blocks) f g) (form_words w.form most closes.mirrors) closes.only (omega arith)
 
   are_bounds : BoundsOf w (weave_of w.form most) bounds
   are_bounds = bounds_in w most bounds b
@@ -164,6 +171,7 @@ pub instruction_faults_are_caught : InstructionFaultsAreCaught
 instruction_faults_are_caught f o blocks words plan t told reached aims =
     let loads = t.file.loads in
     let w = kept.w f o t.sound loads t.admitted blocks t.are words t.code t.few reached aims in
-    plan_faults (tests.input f o t.sound loads t.admitted blocks t.are words t.code t.few reached aims) (tests.output f o t.sound loads t.admitted blocks t.are words t.code t.few reached aims) w o.inst_max blocks plan.bounds
+    subst (λ b. FaultsFound (loaded_file f) (tests.output f o t.sound loads t.admitted blocks t.are words t.code t.few reached aims) reached (data_ranges (image_of f)) plan.bounds b.start b.piece) (sym told.bounds)
+    (plan_faults (tests.input f o t.sound loads t.admitted blocks t.are words t.code t.few reached aims) (tests.output f o t.sound loads t.admitted blocks t.are words t.code t.few reached aims) w o.inst_max blocks plan.bounds
     (kept.plan f o t.sound loads t.admitted blocks t.are words t.code t.few reached aims)
-    (mirrors_of o.diverse w refl refl) (tests.closes f o t.sound loads t.admitted blocks t.are words t.code t.few reached aims) t.sound.visits (tests.told_bounds f o blocks plan told)
+    (mirrors_of o.diverse w refl refl) (tests.closes f o t.sound loads t.admitted blocks t.are words t.code t.few reached aims) t.sound.visits (tests.told_bounds f o blocks plan told))

@@ -3,8 +3,7 @@ use Rattle.std.proofs.Common.{◌≡◌, ℕ, zero, suc, ◌+◌, ◌*◌, ◌�
 use Rattle.rv_isa.specs.declared.class.Class.TheVariants as class
 use Rattle.qed_model.specs.declared.bounds.Bounds.{Bounds}
 use Rattle.tests.specs.Admission.DataRanges.{word_count}
-use Rattle.qed_model.specs.Promise.Caught.{Caught}
-use Rattle.qed_model.specs.Promise.Clean.{Clean}
+use Rattle.qed_model.specs.Promise.InStep.{CaughtInStep, CleanInStep}
 use Rattle.qed_model.specs.Weave.Blocks.{begins_at}
 use Rattle.qed_model.specs.Weave.Bounds.{word_bound}
 use Rattle.qed_model.specs.Weave.Pieces.{piece_count}
@@ -15,7 +14,7 @@ use Rattle.weave_core.specs.Weave.{Weave, start_steps, stage_steps}
 use Rattle.weave_core.specs.WeaveLaws.{CheckedRows, Rows, Starts, Words, PiecesAt}
 use Rattle.weave_core.specs.WeavePromise.{AllBlocksOf, PlanOf, OnlyCode, BoundsOf, WeaveCaught, WeaveClean}
 use Rattle.weave_core.specs.World.{World, Program}
-use Rattle.weave_core.proofs.Lemmas.{WeaveIn, kept, quiet_at, plan_in}
+use Rattle.weave_core.proofs.Lemmas.{WeaveIn, in_step, quiet_before, plan_in}
 use Rattle.lockstep.proofs.Numbered.{round_some}
 use Rattle.lockstep.proofs.Beating.{sizes, traced, Bound, swept_end}
 use Rattle.lockstep.proofs.Calm.{CalmCode}
@@ -56,16 +55,16 @@ all_blocks w v leader (b ∷ bs) g = let x = whole w v leader b.body b.end b.sta
 -- ---- the code of a plan
 pub calm_plan :
     (f g : Program) (w : World) (v : Weave) (blocks : List Block) → PlanOf f g w v blocks → Rows w v (begins_at blocks) → Starts f g w v (begins_at blocks)
-    → Words w.form.far v → OnlyCode f g w v.code blocks → CalmCode f g w
-calm_plan f g w v blocks plan rows starts law closes =
+    → Words w.form.far v → OnlyCode f g w v.code blocks → 1 ≤ v.piece_steps → CalmCode f g w (start_steps v) (stage_steps v)
+calm_plan f g w v blocks plan rows starts law closes some =
     let good = all_blocks w v (begins_at blocks) blocks plan.good in
     let woven = plan_in f g w v blocks plan rows starts in
     record {
       world = plan.world;
       words = word_at f g w v blocks law closes good plan.words;
       entries = entries_open f g w v blocks law closes good plan.words;
-      calm = λ regs are m steady. (kept f g w v (begins_at blocks) woven).quiet regs m are steady;
-      quiet = quiet_at f g w v (begins_at blocks) woven;
+      kept = in_step f g w v (begins_at blocks) woven (omega (arith, some));
+      quiet = quiet_before f g w v (begins_at blocks) woven;
     }
 
 -- where there are words, the bound of a word
@@ -80,8 +79,8 @@ module _ (f g : Program) (w : World) (v : Weave) (blocks : List Block) (plan : P
   woven = plan_in f g w v blocks plan rows.rows starts
 
   -- its code is calm
-  code : CalmCode f g w
-  code = calm_plan f g w v blocks plan rows.rows starts law closes
+  code : CalmCode f g w (start_steps v) (stage_steps v)
+  code = calm_plan f g w v blocks plan rows.rows starts law closes (omega (arith, room))
 
   -- the sizes of the trace
   abbrev z : Sizes
@@ -98,20 +97,20 @@ module _ (f g : Program) (w : World) (v : Weave) (blocks : List Block) (plan : P
   }
 
   -- changes are caught
-  pub catches_all : (bounds : Bounds) → BoundsOf w v bounds → CaughtAll f g w bounds
+  pub catches_all : (bounds : Bounds) → BoundsOf w v bounds → CaughtAll f g w (start_steps v) (stage_steps v) bounds
   catches_all bounds are = record {
-    settles = λ regs cs b start ordered free bound steady.
-        settles_all f g w code regs start z v.round v.first_steps (Bound f g w v (begins_at blocks) rows woven two room regs start) times (traced f g w v (begins_at blocks) rows woven two room regs start) bounds (by bounds are) cs b ordered free bound steady;
+    settles = λ regs cs b start ordered free bound steady going.
+        settles_all f g w (start_steps v) (stage_steps v) code regs start z v.round v.first_steps (Bound f g w v (begins_at blocks) rows woven two room regs start) times (traced f g w v (begins_at blocks) rows woven two room regs start) bounds (by bounds are) cs b ordered free bound steady going;
   }
 
-  pub catches : (bounds : Bounds) → BoundsOf w v bounds → Caught f g w.reached w.form.spans bounds
-  catches bounds are = caught_of f g w bounds code (catches_all bounds are)
+  pub catches : (bounds : Bounds) → BoundsOf w v bounds → CaughtInStep f g w.reached w.form.spans bounds (start_steps v) (stage_steps v)
+  catches bounds are = caught_of f g w (start_steps v) (stage_steps v) bounds code (catches_all bounds are)
 
   -- with the sweep none ends silently
-  pub cleans : v.sweeps ≡ true → Clean f g w.reached w.form.spans (v.sweep_steps + 14)
+  pub cleans : v.sweeps ≡ true → CleanInStep f g w.reached w.form.spans (v.sweep_steps + 14) (start_steps v) (stage_steps v)
   cleans sweeps = record {
     settles = λ regs cs e start ordered free early ended first steady.
-        cleaned f g w code v.sweep_steps regs start cs e ordered free early ended first steady (λ always going. swept_end f g w v (begins_at blocks) rows woven two room regs start e always sweeps ended going);
+        cleaned f g w (start_steps v) (stage_steps v) code v.sweep_steps regs start cs e ordered free early ended first steady (λ always going. swept_end f g w v (begins_at blocks) rows woven two room regs start e always sweeps ended going);
   }
 
 pub weave_caught : WeaveCaught

@@ -10,12 +10,13 @@ use Rattle.machine.specs.declared.outcome.Cause.TheVariants as cause
 use Rattle.weave_core.specs.World.{Going, Ended, Fired, put, number, grants, State, reg, moved, stored, trapped, next_pc, place, result, execute, Fetched, Known, next, step, run, Ins, Class, class_of, set_reg, width_of, loaded}
 use Rattle.machine.specs.Struck.{struck}
 use Rattle.qed_model.specs.Promise.Changed.{changed, changed_as, with_changes, changed_run}
-use Rattle.qed_model.specs.Promise.Caught.{Same, Settles}
+use Rattle.qed_model.specs.Promise.Caught.{Same}
+use Rattle.qed_model.specs.Promise.InStep.{SameBeside, IsSettled, SettlesWithin}
 use Rattle.qed_model.specs.Promise.Kept.{is_trapped, NotTrapped}
 use Rattle.machine.proofs.Lemmas.{step-class, run-more, run-last}
 use Rattle.weave_core.specs.Lock.{Opens, HasKind, scratch_compute, scratch_load, scratch_store, scratch_branch, jumps, scratch_jump, computes, fences, loads, stores as stores_kind, guards, guards_back, breaks, takes, branches, forks, ends, no_word, visits}
 use Rattle.weave_core.proofs.Lemmas.{run-ended}
-use Rattle.lockstep.specs.InstructionFaults.{WritesOriginal, GivesAny, gives, skips, FoundOut}
+use Rattle.lockstep.specs.InstructionFaults.{WritesOriginal, GivesAny, gives, skips}
 use Rattle.lockstep.proofs.Ground.{run-fired}
 
 -- ---- behind an instruction that computes or accesses memory no register is closed
@@ -157,32 +158,29 @@ with_two c d n u e f go on =
 -- ---- what settles is found out
 pub found_out :
     (spans : List (ℕ × ℕ)) (s : State) (changed : ℕ → State) (v : State) (t b : ℕ) → (run s t).outcome ≡ Going → ((k : ℕ) → k < t → changed k ≡ run s k)
-    → ((k : ℕ) → changed (t + k) ≡ run v k) → Settles spans t b changed (run s) → FoundOut spans b v (λ k. run s (t + k))
-found_out spans s changed v t b go early later x = ⊎_elim (λ h. absurd (too_early h)) (λ h. in_time h) (cases_lt x.steps t) where
+    → ((k : ℕ) → changed (t + k) ≡ run v k) → SettlesWithin spans t b changed (run s) → SettlesWithin spans 0 b (run v) (λ k. run s (t + k))
+found_out spans s changed v t b go early later x = ⊎_elim (λ h. absurd (too_early h x.settled)) (λ h. in_time h x.settled) (cases_lt x.steps t) where
   -- a run that stops stays so
   ahead : x.steps < t → run s t ≡ run (run s x.steps) (t - x.steps)
   ahead h = let e : t ≡ x.steps + (t - x.steps) = omega (arith, h) in ap (run s) e ∙ run-more s x.steps (t - x.steps)
 
-  too_early : x.steps < t → ⊥
-  too_early h = by_cause x.settled where
-    by_cause : ((changed x.steps).outcome ≡ Fired) ⊎ (((changed x.steps).outcome ≡ Ended) ⊎ ((t ≤ x.steps) × Same spans (changed x.steps) (run s x.steps))) → ⊥
-    by_cause (inl e) =
-        let f : (run s x.steps).outcome ≡ Fired = ap (λ y. y.outcome) (sym (early x.steps h)) ∙ e in
-        let g : Going ≡ Fired = sym go ∙ ap (λ y. y.outcome) (ahead h ∙ run-fired (run s x.steps) (t - x.steps) f) ∙ f in cc
-    by_cause (inr (inl e)) =
-        let f : (run s x.steps).outcome ≡ Ended = ap (λ y. y.outcome) (sym (early x.steps h)) ∙ e in
-        let g : Going ≡ Ended = sym go ∙ ap (λ y. y.outcome) (ahead h ∙ run-ended (t - x.steps) (run s x.steps) f) ∙ f in cc
-    by_cause (inr (inr e)) = absurd (omega (arith, e.0, h))
+  too_early : x.steps < t → IsSettled spans t x.steps changed (run s) → ⊥
+  too_early h (IsSettled.fires e) =
+      let f : (run s x.steps).outcome ≡ Fired = ap (λ y. y.outcome) (sym (early x.steps h)) ∙ e in
+      let g : Going ≡ Fired = sym go ∙ ap (λ y. y.outcome) (ahead h ∙ run-fired (run s x.steps) (t - x.steps) f) ∙ f in cc
+  too_early h (IsSettled.ends e k a) =
+      let f : (run s x.steps).outcome ≡ Ended = ap (λ y. y.outcome) (sym (early x.steps h)) ∙ e in
+      let g : Going ≡ Ended = sym go ∙ ap (λ y. y.outcome) (ahead h ∙ run-ended (t - x.steps) (run s x.steps) f) ∙ f in cc
+  too_early h (IsSettled.gone l e) = absurd (omega (arith, l, h))
 
-  in_time : t ≤ x.steps → FoundOut spans b v (λ k. run s (t + k))
-  in_time h =
+  in_time : t ≤ x.steps → IsSettled spans t x.steps changed (run s) → SettlesWithin spans 0 b (run v) (λ k. run s (t + k))
+  in_time h found =
       let e : x.steps ≡ t + (x.steps - t) = omega (arith, h) in
       let there : changed x.steps ≡ run v (x.steps - t) = ap changed e ∙ later (x.steps - t) in
-      record {
-        steps = x.steps - t;
-        within = omega (arith, x.within, h);
-        found = ⊎_elim
-            (λ f. inl (ap (λ y. y.outcome) (sym there) ∙ f))
-            (λ r. ⊎_elim (λ f. inr (inl (ap (λ y. y.outcome) (sym there) ∙ f))) (λ f. inr (inr (subst (λ k. Same spans (run v (x.steps - t)) (run s k)) e (subst (λ y. Same spans y (run s x.steps)) there f.1)))) r)
-            x.settled;
-      }
+      record { steps = x.steps - t; within = omega (arith, x.within, h); settled = by e there found } where
+        by : x.steps ≡ t + (x.steps - t) → changed x.steps ≡ run v (x.steps - t) → IsSettled spans t x.steps changed (run s) → IsSettled spans 0 (x.steps - t) (run v) (λ k. run s (t + k))
+        by e there (IsSettled.fires o) = IsSettled.fires (ap (λ y. y.outcome) (sym there) ∙ o)
+        by e there (IsSettled.ends o when beside) =
+            IsSettled.ends (ap (λ y. y.outcome) (sym there) ∙ o) (λ k l. ap (λ y. y.outcome) (sym (later k)) ∙ when (t + k) (omega (arith, l, h)))
+            (subst (λ k. SameBeside spans (run v (x.steps - t)) (run s k)) e (subst (λ y. SameBeside spans y (run s x.steps)) there beside))
+        by e there (IsSettled.gone l same) = IsSettled.gone (omega arith) (subst (λ k. Same spans (run v (x.steps - t)) (run s k)) e (subst (λ y. Same spans y (run s x.steps)) there same))

@@ -50,7 +50,7 @@ same_cell (Some o) None k e b = absurd (cc)
 same_cell (Some o) (Some c) k e b = let f : o.flags ≡ c.flags = cc in ap (λ x. Some (record { byte = x; flags = o.flags })) b ∙ ap (λ x. Some (record { byte = c.byte; flags = x })) f
 
 -- where no cell is, none is in a memory with the same permissions
-no_cell : (o : Option Cell) (c : Option Cell) → option_map (λ x. x.flags) o ≡ option_map (λ x. x.flags) c → c ≡ None → o ≡ None
+pub no_cell : (o : Option Cell) (c : Option Cell) → option_map (λ x. x.flags) o ≡ option_map (λ x. x.flags) c → c ≡ None → o ≡ None
 no_cell None c e n = refl
 no_cell (Some o) None e n = absurd (cc)
 no_cell (Some o) (Some c) e n = absurd (cc)

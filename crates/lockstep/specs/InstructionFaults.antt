@@ -2,7 +2,7 @@
 use Rattle.std.specs.Prelude.{◌≡◌, ◌⊎◌, ℕ, ◌+◌, ◌-◌, ◌*◌, ◌/◌, ◌≤◌, Bool, List, Some}
 use Rattle.rv_isa.specs.declared.class.Class.TheVariants as class
 use Rattle.qed_model.specs.declared.bounds.Bounds.{Bounds}
-use Rattle.machine.specs.declared.outcome.Outcome.TheVariants.{Going, Ended, Fired}
+use Rattle.machine.specs.declared.outcome.Outcome.TheVariants.{Going}
 use Rattle.tests.specs.declared.options.Options.{Options}
 use Rattle.qed_model.specs.declared.plan.Plan.{Plan}
 use Rattle.tests.specs.Admission.DataRanges.{data_ranges, ElfFile}
@@ -13,9 +13,10 @@ use Rattle.machine.specs.Memory.{put}
 use Rattle.machine.specs.Program.{Program, AreStartRegs}
 use Rattle.machine.specs.Step.{State, moved, stored, next_pc, place, Known, next, run, Ins, class_of, set_reg}
 use Rattle.machine.specs.Values.{width_of}
-use Rattle.qed_model.specs.Promise.Caught.{Same}
+use Rattle.qed_model.specs.Promise.InStep.{SettlesWithin}
+use Rattle.qed_model.specs.Promise.OwnSteps.{Covers}
 use Rattle.qed_model.specs.Promise.Changed.{IsDataWord}
-use Rattle.qed_model.specs.Promise.Kept.{after_output, Steady}
+use Rattle.qed_model.specs.Promise.Kept.{after_output}
 use Rattle.tests.specs.Admission.Places.{image_of}
 use Rattle.qed_model.specs.Weave.Sequences.{Block, LAST_ORIGINAL}
 use Rattle.qed_model.specs.Weave.Woven.{compared, woven_file, IsToldOf}
@@ -50,21 +51,15 @@ pub data StoresAny (i : Ins) (u v : State) : Type 0 where
   leaves : v ≡ moved u.regs (next_pc u) u → StoresAny i u v
 
 -- ---- the promise
--- within b steps a run has fired, or has ended, or is the run without faults again
-pub record FoundOut (spans : List (ℕ × ℕ)) (b : ℕ) (v : State) (unchanged : ℕ → State) : Type 0 where
-  pub steps : ℕ
-  pub within : steps ≤ b
-  pub found : ((run v steps).outcome ≡ Fired) ⊎ (((run v steps).outcome ≡ Ended) ⊎ Same spans (run v steps) (unchanged steps))
-
--- wherever the output's run without faults goes on at such an instruction, as far as the input's run is steady
-pub record FaultsFound (f g : Program) (reached : ℕ → Bool) (spans : List (ℕ × ℕ)) (bounds : Bounds) : Type 0 where
+-- wherever the output's run without faults goes on at such an instruction, as far as the input is steady for the steps that are made of it
+pub record FaultsFound (f g : Program) (reached : ℕ → Bool) (spans : List (ℕ × ℕ)) (bounds : Bounds) (first bound : ℕ) : Type 0 where
   pub results :
       (regs : List ℕ) (n : ℕ) (i : Ins) (v : State) → AreStartRegs regs → (after_output g regs n).outcome ≡ Going → next (after_output g regs n) ≡ Known i → WritesOriginal i
-      → GivesAny i (after_output g regs n) v → Steady f reached (n + 1 + bounds.register) → FoundOut spans bounds.register v (λ k. after_output g regs (n + 1 + k))
+      → GivesAny i (after_output g regs n) v → Covers f g reached first bound regs (n + 1 + bounds.register) → SettlesWithin spans 0 bounds.register (run v) (λ k. after_output g regs (n + 1 + k))
   pub stores :
       (regs : List ℕ) (n b : ℕ) (i : Ins) (v : State) → AreStartRegs regs → (after_output g regs n).outcome ≡ Going → next (after_output g regs n) ≡ Known i
-      → StoresOriginal spans i (after_output g regs n) → StoresAny i (after_output g regs n) v → bounds.word ≡ Some b → Steady f reached (n + 1 + b)
-      → FoundOut spans b v (λ k. after_output g regs (n + 1 + k))
+      → StoresOriginal spans i (after_output g regs n) → StoresAny i (after_output g regs n) v → bounds.word ≡ Some b → Covers f g reached first bound regs (n + 1 + b)
+      → SettlesWithin spans 0 b (run v) (λ k. after_output g regs (n + 1 + k))
 
 -- ---- the law
 -- of each test that was woven, with the bounds that are told of it
@@ -72,4 +67,4 @@ abbrev pub InstructionFaultsAreCaught : Type 0
 InstructionFaultsAreCaught =
     (f : ElfFile) (o : Options) (blocks : List Block) (words : List ℕ) (plan : Plan) → IsWovenTest f o blocks words → IsToldOf (compared f o blocks) f o blocks plan
     → (reached : ℕ → Bool) → AreReached f o reached
-    → FaultsFound (loaded_file f) (loaded_file (file_read (woven_file f o blocks words))) reached (data_ranges (image_of f)) plan.bounds
+    → FaultsFound (loaded_file f) (loaded_file (file_read (woven_file f o blocks words))) reached (data_ranges (image_of f)) plan.bounds plan.bounds.start plan.bounds.piece

@@ -4,8 +4,7 @@ use Rattle.qed_model.specs.declared.bounds.Bounds.{Bounds}
 use Rattle.qed_model.specs.declared.plan.EntryRow.{EntryRow}
 use Rattle.qed_model.specs.Promise.Kept.{Kept}
 use Rattle.qed_model.specs.Promise.Landed.{IsEntry, Landed}
-use Rattle.qed_model.specs.Promise.Caught.{Caught}
-use Rattle.qed_model.specs.Promise.Clean.{Clean}
+use Rattle.qed_model.specs.Promise.InStep.{CaughtInStep, CleanInStep}
 use Rattle.qed_model.specs.Weave.Bounds.{register_bound, word_bound}
 use Rattle.qed_model.specs.Weave.Blocks.{begins_at}
 use Rattle.qed_model.specs.Weave.Placed.{instructions_from}
@@ -61,7 +60,7 @@ WeaveCaught =
     (f g : Program) (w : World) (v : Weave) (blocks : List Block) (bounds : Bounds) → PlanOf f g w v blocks → CheckedRows w v (begins_at blocks)
     → Starts f g w v (begins_at blocks) → Words w.form.far v → OnlyCode f g w v.code blocks → 1 ≤ v.round
     → 2 ≤ v.leave_steps → v.compare_steps + 17 ≤ v.piece_steps
-    → BoundsOf w v bounds → Caught f g w.reached w.form.spans bounds
+    → BoundsOf w v bounds → CaughtInStep f g w.reached w.form.spans bounds (start_steps v) (stage_steps v)
 
 -- and with the sweep no change before it is silent at the end
 abbrev pub WeaveClean : Type 0
@@ -69,4 +68,4 @@ WeaveClean =
     (f g : Program) (w : World) (v : Weave) (blocks : List Block) → PlanOf f g w v blocks → CheckedRows w v (begins_at blocks)
     → Starts f g w v (begins_at blocks) → Words w.form.far v → OnlyCode f g w v.code blocks → 1 ≤ v.round → 2 ≤ v.leave_steps
     → v.compare_steps + 17 ≤ v.piece_steps → v.sweeps ≡ true
-    → Clean f g w.reached w.form.spans (v.sweep_steps + 14)
+    → CleanInStep f g w.reached w.form.spans (v.sweep_steps + 14) (start_steps v) (stage_steps v)
