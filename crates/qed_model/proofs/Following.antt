@@ -59,6 +59,6 @@ promises_follow = record {
     quiet = λ regs m are s. quiet f g reached d first bound k regs are m s;
   };
   caught = λ f g reached spans bounds first bound c. record { settles = λ regs cs b are o places is s going. settles spans _ b _ _ (c.settles regs cs b are o places is (covers_steady f g reached first bound regs _ s) going) };
-  landed = λ most f g reached entries first bound l. record { fires = λ regs t a c here there are s h e n going at. l.fires regs t a c here there are (covers_steady f g reached first bound regs t s) h e n going at };
+  landed = λ most f g reached entries first bound l. record { fires = λ regs t a c here there are s h e n going at. l.fires regs t a c here there are (inr s) h e n going at };
   clean = λ f g reached spans last first bound c. record { settles = λ regs cs e are o places w ends before s. c.settles regs cs e are o places w ends before (covers_steady f g reached first bound regs e s) };
 }

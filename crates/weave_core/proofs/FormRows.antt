@@ -5,7 +5,9 @@ use Rattle.std.proofs.lemmas.Bool.{false≢true, and_parts, and_from, leb-true, 
 use Rattle.std.proofs.lemmas.List.{append-nil, take-append-drop, length-take-le}
 use Rattle.std.proofs.Math.Nat.{mul-le-mul, mul-le-mul_left}
 use Rattle.rv_isa.specs.declared.class.Class.TheVariants as class
-use Rattle.qed_model.specs.Promise.Kept.{NotTrapped, LeadsToReached, IsSteady, Kept}
+use Rattle.qed_model.specs.Promise.Kept.{NotTrapped, LeadsToReached, IsSteady}
+use Rattle.qed_model.specs.Promise.InStep.{LandedInStep}
+use Rattle.qed_model.specs.Promise.OwnSteps.{KeptInStep}
 use Rattle.qed_model.specs.Weave.Pieces.{is_run}
 use Rattle.qed_model.specs.Weave.Blocks.{begins_at}
 use Rattle.qed_model.specs.Weave.Sequences.{Form, Reads, End, Falls, Stops, Block, original, each_part, guards, sweep, compare, visit, leave, leave_as, Ins, class_of, Class, ORIGINALS, CURSOR, SIGNATURE, TEMPORARY}
@@ -41,7 +43,7 @@ use Rattle.weave_core.specs.WeaveLaws.{PieceAt, EntryAt, Met, Trail, Stands, Goe
 use Rattle.weave_core.specs.WeavePromise.{PlanOf}
 use Rattle.weave_core.specs.WeaveForms.{is_signed_at, weave_with, weave_of, ChecksLaws}
 use Rattle.qed_model.specs.Weave.Costs.{spent, cost_each, used, bare_cost, original_cost}
-use Rattle.weave_core.proofs.Values.{WeaveIn, kept, weave_kept}
+use Rattle.weave_core.proofs.Values.{WeaveIn, in_step, plan_in}
 use Rattle.rv_isa.proofs.RegsLaws.{slice_index-set_reg_other, slice_index-set_reg_same}
 use Rattle.weave_core.proofs.Landings.{landed, weave_landed}
 
@@ -387,18 +389,20 @@ checks_after form xs checks m first steps quiet lock laws = record {
 pub kept_with :
     (f g : Program) (w : World) (most : ℕ) (checks : List Item) (first steps : ℕ) (blocks : List Block) → ChecksLaws w.form checks first steps
     → PlanOf f g w (weave_with w.form most checks first steps) blocks → Mirrors w
-    → Kept f g w.reached (start_steps (weave_with w.form most checks first steps)) (stage_steps (weave_with w.form most checks first steps))
-kept_with f g w most checks first steps blocks laws p law = weave_kept f g w (weave_with w.form most checks first steps) blocks p (rows_with w most checks first steps laws (begins_at blocks) law).rows (starts_with w most checks first steps laws (begins_at blocks) f g)
+    → KeptInStep f g w.reached w.distance (start_steps (weave_with w.form most checks first steps)) (stage_steps (weave_with w.form most checks first steps))
+kept_with f g w most checks first steps blocks laws p law =
+    let rows = rows_with w most checks first steps laws (begins_at blocks) law in
+    in_step f g w (weave_with w.form most checks first steps) (begins_at blocks) (plan_in f g w (weave_with w.form most checks first steps) blocks p rows.rows (starts_with w most checks first steps laws (begins_at blocks) f g)) (omega arith)
 
 -- where each leader has its entry, the values are kept
 pub values_kept : ValuesKept
-values_kept f g w leader most x law = subst (λ n. Kept f g w.reached (start_of w.form) n) (omega arith) (kept f g w (weave_of w.form most) leader (woven_in w most f g leader x law))
+values_kept f g w leader most x law = subst (λ n. KeptInStep f g w.reached w.distance (start_of w.form) n) (omega arith) (in_step f g w (weave_of w.form most) leader (woven_in w most f g leader x law) (omega arith))
 
 -- a plan keeps the values
 pub plan_kept : PlanKept
 plan_kept f g w most blocks p law =
     let k = kept_with f g w most (both w most) 0 (both_steps w most) blocks (form_checks w.form) p law in
-    subst (λ n. Kept f g w.reached (start_of w.form) n) (omega arith) k
+    subst (λ n. KeptInStep f g w.reached w.distance (start_of w.form) n) (omega arith) k
 
 -- ---- the entry
 -- numbers that differ fail the test
@@ -435,8 +439,12 @@ form_guarded w most checks first steps = record {
 
 -- and its jumps land
 pub plan_landed : PlanLanded
-plan_landed f g w most blocks entries p law known = weave_landed f g w (weave_of w.form most) blocks entries p (form_rows w most (begins_at blocks) law).rows (form_starts w most (begins_at blocks) f g) (form_guarded w most (both w most) 0 (both_steps w most)) known
+plan_landed f g w most blocks entries p law known =
+    subst (λ n. LandedInStep 4 f g w.reached entries (start_of w.form) n) (omega arith)
+    (weave_landed f g w (weave_of w.form most) blocks entries p (form_rows w most (begins_at blocks) law).rows (form_starts w most (begins_at blocks) f g) (form_guarded w most (both w most) 0 (both_steps w most)) known)
 
 -- and so they do wherever the entries stand
 pub landings_fire : LandingsFire
-landings_fire f g w leader most entries x law known = landed f g w (weave_of w.form most) leader entries (woven_in w most f g leader x law) (form_guarded w most (both w most) 0 (both_steps w most)) known
+landings_fire f g w leader most entries x law known =
+    subst (λ n. LandedInStep 4 f g w.reached entries (start_of w.form) n) (omega arith)
+    (landed f g w (weave_of w.form most) leader entries (woven_in w most f g leader x law) (form_guarded w most (both w most) 0 (both_steps w most)) known)

@@ -1,7 +1,7 @@
 -- The laws of both kinds of mirror part: the same on the pairs, of which an instruction has at most 5 steps with its original part,
 -- and of other kinds, with at most 8.
 use Rattle.std.specs.Prelude.{◌≡◌, ℕ, Bool, List}
-use Rattle.qed_model.specs.Promise.Kept.{Kept}
+use Rattle.qed_model.specs.Promise.OwnSteps.{KeptInStep}
 use Rattle.qed_model.specs.Weave.Bounds.{cost_of}
 use Rattle.qed_model.specs.Weave.Sequences.{Block}
 use Rattle.qed_model.specs.Weave.Diverse.{diverse}
@@ -19,4 +19,4 @@ MirrorsHold = (other : Bool) (w : World) → w.form.mirror ≡ mirror_of other �
 
 -- any plan with those of other kinds keeps the values
 abbrev pub DiverseKept : Type 0
-DiverseKept = (f g : Program) (w : World) (most : ℕ) (blocks : List Block) → PlanOf f g w (weave_of w.form most) blocks → w.form.mirror ≡ diverse → w.form.cost ≡ 8 → Kept f g w.reached (start_of w.form) (piece_of w.form most)
+DiverseKept = (f g : Program) (w : World) (most : ℕ) (blocks : List Block) → PlanOf f g w (weave_of w.form most) blocks → w.form.mirror ≡ diverse → w.form.cost ≡ 8 → KeptInStep f g w.reached w.distance (start_of w.form) (piece_of w.form most)

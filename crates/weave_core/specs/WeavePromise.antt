@@ -3,8 +3,8 @@ use Rattle.std.specs.Prelude.{◌≡◌, ℕ, ◌+◌, ◌*◌, ◌≤◌, ◌�
 use Rattle.qed_model.specs.declared.bounds.Bounds.{Bounds}
 use Rattle.qed_model.specs.declared.plan.EntryRow.{EntryRow}
 use Rattle.qed_model.specs.Promise.Kept.{Kept}
-use Rattle.qed_model.specs.Promise.Landed.{IsEntry, Landed}
-use Rattle.qed_model.specs.Promise.InStep.{CaughtInStep, CleanInStep}
+use Rattle.qed_model.specs.Promise.Landed.{IsEntry}
+use Rattle.qed_model.specs.Promise.InStep.{CaughtInStep, CleanInStep, LandedInStep}
 use Rattle.qed_model.specs.Weave.Bounds.{register_bound, word_bound}
 use Rattle.qed_model.specs.Weave.Blocks.{begins_at}
 use Rattle.qed_model.specs.Weave.Placed.{instructions_from}
@@ -39,7 +39,7 @@ abbrev pub WeaveLanded : Type 0
 WeaveLanded =
     (f g : Program) (w : World) (v : Weave) (blocks : List Block) (entries : List EntryRow) → PlanOf f g w v blocks → Rows w v (begins_at blocks)
     → Starts f g w v (begins_at blocks) → Guarded w v 4
-    → ((a e : ℕ) → IsEntry entries a e → (begins_at blocks a ≡ true) × (e ≡ w.entry a)) → Landed 4 f g w.reached entries
+    → ((a e : ℕ) → IsEntry entries a e → (begins_at blocks a ≡ true) × (e ≡ w.entry a)) → LandedInStep 4 f g w.reached entries (start_steps v) (stage_steps v)
 
 -- nothing else is code
 pub record OnlyCode (f g : Program) (w : World) (s : Sequences) (blocks : List Block) : Type 0 where

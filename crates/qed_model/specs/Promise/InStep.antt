@@ -11,7 +11,7 @@ use Rattle.machine.specs.Step.{State, reg}
 use Rattle.qed_model.specs.Promise.Caught.{bound_of, AllOpen, Same, Caught}
 use Rattle.qed_model.specs.Promise.Changed.{changed_run, Ordered, last_step}
 use Rattle.qed_model.specs.Promise.Clean.{Clean}
-use Rattle.qed_model.specs.Promise.Kept.{after_output, Kept}
+use Rattle.qed_model.specs.Promise.Kept.{after_output, Steady, Kept}
 use Rattle.qed_model.specs.Promise.Landed.{IsEntry, Fires, placed_at, Landed}
 use Rattle.qed_model.specs.Promise.OwnSteps.{Covers, KeptInStep}
 
@@ -44,10 +44,11 @@ pub record CaughtInStep (f g : Program) (reached : ℕ → Bool) (spans : List (
       Covers f g reached first bound regs (last_step cs + b) → (after_output g regs (last_step cs)).outcome ≡ Going →
       SettlesWithin spans (last_step cs) b (changed_run (start g regs) cs) (after_output g regs)
 
--- where the output stands at the entry of an address, the same state at the entry of another fires within so many steps
+-- where the output stands at the entry of an address, the same state at the entry of another fires within so many steps; the input is steady for the
+-- steps that are made of it, or for t of its own
 pub record LandedInStep (most : ℕ) (f g : Program) (reached : ℕ → Bool) (entries : List EntryRow) (first bound : ℕ) : Type 0 where
   pub fires :
-      (regs : List ℕ) (t a c here there : ℕ) → AreStartRegs regs → Covers f g reached first bound regs t → IsEntry entries a here → IsEntry entries c there → a ≢ c
+      (regs : List ℕ) (t a c here there : ℕ) → AreStartRegs regs → (Covers f g reached first bound regs (t + 1)) ⊎ Steady f reached t → IsEntry entries a here → IsEntry entries c there → a ≢ c
       → (after_output g regs t).outcome ≡ Going → (after_output g regs t).pc ≡ here → Fires most (placed_at there (after_output g regs t))
 
 -- where the output first ends after e steps, and the changes leave `last` steps, the changed run has fired after e steps, or has ended with nothing
