@@ -11,7 +11,7 @@ pub use Rattle.weave_core.proofs.Visit.{add_result, checked_behind, cursor_decid
 pub use Rattle.weave_core.proofs.Body.{auipc_is, mirror_steps_le, mirrored_part, spent_le}
 pub use Rattle.weave_core.proofs.Indirect.{Leaps, Tabled, addi_value, aim, andi_value, entry_leap, find, found, leap_step, leap_there, linked, linked_out, links_sets, look_walk, looked_keeps, table_load, table_word, tabled, word}
 pub use Rattle.weave_core.proofs.Endings.{guards_pass, visit_more}
-pub use Rattle.weave_core.proofs.Trails.{feeds_first, feeds_less, feeds_on, holds_of, met_ended, met_going, met_same, trail_first, trail_later, trail_met, trail_none, trail_on, trail_one}
+pub use Rattle.weave_core.proofs.Trails.{Row, feeds_first, feeds_less, feeds_on, holds_of, met_at, met_ended, met_going, met_same, trail_first, trail_later, trail_met, trail_none, trail_on, trail_one}
 pub use Rattle.weave_core.proofs.Trace.{full_rest, none_run, one_run, run-ended, stops_few, trace, trail_leave}
 pub use Rattle.weave_core.proofs.Feeds.{piece_steady, steady_none}
 pub use Rattle.weave_core.proofs.Prologue.{begin_row}

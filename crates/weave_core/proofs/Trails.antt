@@ -1,7 +1,8 @@
 -- Trails: how the states of the input to which the output comes are joined.
-use Rattle.std.proofs.Common.{◌≡◌, ℕ, zero, suc, ◌+◌, ◌<◌, ◌≤◌, refl, sym, ap, ◌∙◌, subst, arith}
+use Rattle.std.proofs.Common.{◌≡◌, ℕ, zero, suc, ◌+◌, ◌<◌, ◌≤◌, List, refl, sym, ap, ◌∙◌, subst, arith}
 use Rattle.machine.proofs.Lemmas.{run-more, run-none, run-one}
-use Rattle.weave_core.specs.World.{World, Outcome, Going, Ended, State, Twice, run}
+use Rattle.weave_core.specs.Rows.{At, Led}
+use Rattle.weave_core.specs.World.{Item, World, Outcome, Going, Ended, State, Twice, run}
 use Rattle.qed_model.specs.Promise.Kept.{IsSteady}
 use Rattle.weave_core.specs.WeaveLaws.{Holds, Met, Trail, Feeds}
 use Rattle.weave_core.proofs.Source.{steady_rest}
@@ -79,3 +80,13 @@ module _ (w : World) where
   -- one step of the input in some steps
   pub trail_one : (u s : State) (m : ℕ) → 1 ≤ m → Met w u s → Met w (run u m) (run s 1) → Trail w u s 1 m
   trail_one u s m l a b = (0, omega (arith, l), trail_none u s a, b)
+
+-- ---- rows with their trails
+-- items lead through n steps of the input, and on the way the output comes to each of its states
+pub record Row (w : World) (u s : State) (n most : ℕ) (rest : List Item) : Type 0 where
+  pub led : Led w u n most rest (run s n) (run s n)
+  pub trail : Trail w u s n led.steps
+
+-- both halves are those of s
+pub met_at : (w : World) (u s : State) (rest : List Item) → At w u rest s s → s.outcome ≡ Going → Met w u s
+met_at w u s rest a going = met_going w u s (holds_of w u s s a.halved) a.over.going going

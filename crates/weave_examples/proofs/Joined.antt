@@ -1,5 +1,5 @@
 -- Joined pieces meet the laws of a weave: the lemmas of their own are those on a piece.
-use Rattle.std.proofs.Common.{◌≡◌, ℕ, ◌+◌, ◌-◌, ◌*◌, ◌<◌, ◌≤◌, ⊎_elim, Bool, true, false, List, [], ◌∷◌, ◌++◌, length, refl, sym, ap, ◌∙◌, subst, arith, append_assoc, length-append}
+use Rattle.std.proofs.Common.{◌≡◌, ℕ, suc, ◌+◌, ◌-◌, ◌*◌, ◌<◌, ◌≤◌, ⊎_elim, Bool, true, false, List, [], ◌∷◌, ◌++◌, length, refl, sym, ap, ◌∙◌, subst, arith, append_assoc, length-append}
 use Rattle.std.proofs.lemmas.Bool.{and_parts, leb-true, cases_lt}
 use Rattle.std.proofs.Math.Nat.{mul-le-mul, mul-le-mul_left}
 use Rattle.qed_model.specs.Promise.Kept.{NotTrapped}
@@ -8,17 +8,17 @@ use Rattle.qed_model.specs.Weave.Pieces.{is_run, whole}
 use Rattle.machine.specs.Offsets.{distance_between, upper_part}
 use Rattle.qed_model.specs.Weave.Sequences.{Form, guards, original, each_part, compare, visit, Ins}
 use Rattle.qed_model.specs.Weave.Costs.{used}
-use Rattle.machine.proofs.Lemmas.{run-more, walk_on}
-use Rattle.weave_core.specs.World.{Item, World, Quiet as Calm, IsCursor, Auipc, ins, State, reg, HasAt, run, Program}
+use Rattle.machine.proofs.Lemmas.{run-more, walk_none, walk_on}
+use Rattle.weave_core.specs.World.{Item, Going, World, Quiet as Calm, IsCursor, Auipc, ins, State, reg, HasAt, run, Program}
 use Rattle.weave_core.specs.Blocks.{FitsPiece, AllFit}
-use Rattle.weave_core.specs.Rows.{At, Sourced, Led, Mirrors}
+use Rattle.weave_core.specs.Rows.{At, Sourced, Mirrors}
 use Rattle.weave_core.specs.KindItems.{MirrorsFit}
 use Rattle.weave_core.specs.Pass.{Views, Lockstep}
 use Rattle.weave_core.specs.Each.{items_each}
 use Rattle.weave_core.specs.Parts.{any, bare, GivesMirror, LeavesMirror}
 use Rattle.weave_core.specs.Weave.{Weave}
-use Rattle.weave_core.specs.WeaveLaws.{PieceAt, Holds, GoesTo, Inside, Checked, Words, CheckedRows, Starts}
-use Rattle.weave_core.proofs.Lemmas.{led_on, led_none, led_more, source_run, not_trapped_front, has_front, checked_behind, words_within, has_rest, quiet_then, quiet_each, each_same, never_originals, never_mirrors, for_mirrors, needs_originals, needs_mirrors, gives_originals, gives_mirrors, cost_parts, guarded_original, held_parts, held_is, goes_is, plus, each_plus, NeedsOther, other_cost, quiet_other, quiet_front, lockstep_piece, front_row, both, both_steps, form_checks, rows_with, starts_with, form_guarded, weave_kept, weave_landed}
+use Rattle.weave_core.specs.WeaveLaws.{PieceAt, Trail, GoesTo, Inside, Checked, Words, CheckedRows, Starts}
+use Rattle.weave_core.proofs.Lemmas.{Row, holds_of, met_at, met_going, met_same, originals_trail, trail_later, trail_none, trail_on, not_trapped_le, source_run, not_trapped_front, has_front, checked_behind, words_within, has_rest, quiet_then, quiet_each, each_same, never_originals, never_mirrors, for_mirrors, needs_originals, needs_mirrors, gives_originals, gives_mirrors, cost_parts, guarded_original, held_parts, held_is, goes_is, plus, each_plus, NeedsOther, other_cost, quiet_other, quiet_front, lockstep_piece, front_row, both, both_steps, form_checks, rows_with, starts_with, form_guarded, weave_kept, weave_landed}
 use Rattle.lockstep.proofs.Lemmas.{form_words, visits_ten, weave_caught, weave_clean}
 use Rattle.weave_examples.specs.Joined.{all_runs, runs_items, joined, JoinedKept, JoinedLanded, JoinedCaught, JoinedClean}
 
@@ -32,7 +32,7 @@ module _ (w : World) (law : Mirrors w) where
   one_run :
       (r : List Ins) (u s : State) (rest : List Item) → is_run r ≡ true → AllFit r → HasAt w.source s.pc r
       → At w u ((each_part original r s.pc ++ each_part w.form.mirror r s.pc) ++ rest) s s → Sourced w s → NotTrapped (run s (length r))
-      → Led w u (length r) (w.form.cost * length r) rest (run s (length r)) (run s (length r))
+      → Row w u s (length r) (w.form.cost * length r) rest
   one_run r u s rest clean fit has a so calm =
       let v : Views = record { now = u; original = s; shadow = s; leads = λ a. false } in
       let os = each_same plus (λ i at. guards (used i) ++ bare i at) original guarded_original r s.pc ∙ each_plus original r s.pc in
@@ -51,26 +51,24 @@ module _ (w : World) (law : Mirrors w) where
       let m = gives_mirrors plus (λ a h. refl) w (other_cost w.form) r s.pc c.middle g.to c.more c.last in
       let few = cost_parts w.form.cost (other_cost w.form) law.enough (λ i. omega arith) r in
       let a1 : At w g.to.now rest (run s (length r)) g.to.shadow = subst (λ y. At w g.to.now rest y g.to.shadow) (m.original ∙ o.original) e.0 in
+      let a2 = subst (λ y. At w g.to.now rest (run s (length r)) y) (m.shadow ∙ ap (λ s. run s (length r)) o.shadow) a1 in
+      let front = originals_trail plus (λ a h. refl) w r s.pc v c.middle c.some c.first (met_going w u s (holds_of w u s s a.halved) a.over.going so.over.going) goes in
       record {
-        steps = g.steps;
-        to = g.to.now;
-        at_least = omega (arith, o.slow, c.sum);
-        within = omega (arith, g.within, few);
-        walk = g.walk;
-        at = subst (λ y. At w g.to.now rest (run s (length r)) y) (m.shadow ∙ ap (λ s. run s (length r)) o.shadow) a1;
-        cursor = m.cursor ∙ o.cursor;
-        sign = m.sign ∙ o.sign;
+        led = record { steps = g.steps; to = g.to.now; at_least = omega (arith, o.slow, c.sum); within = omega (arith, g.within, few); walk = g.walk; at = a2; cursor = m.cursor ∙ o.cursor; sign = m.sign ∙ o.sign };
+        trail = trail_later w u s (length r) c.some g.steps (omega (arith, c.sum)) (met_same w (run u g.steps) g.to.now (run s (length r)) (run s (length r)) g.walk.ends refl (met_at w g.to.now (run s (length r)) rest a2 (goes (length r) (omega arith)))) front;
       })
       (λ l. absurd (⊎_elim (λ f. never_originals plus r s.pc w v g.to g.steps f) (λ c. never_mirrors plus (other_cost w.form) r s.pc w c.middle g.to c.more c.last) l))
-      g.ends
+      g.ends where
+        goes : (k : ℕ) → k ≤ length r → (run s k).outcome ≡ Going
+        goes k h = (source_run w r k s h fit so has (not_trapped_le s k (length r) h calm)).sourced.over.going
 
   -- through all runs
   runs_row :
       (rs : List (List Ins)) (u s : State) (rest : List Item) → all_runs rs ≡ true → AllFit (whole rs) → HasAt w.source s.pc (whole rs)
       → At w u (runs_items w.form rs s.pc ++ rest) s s → Sourced w s → NotTrapped (run s (length (whole rs)))
-      → Led w u (length (whole rs)) (w.form.cost * length (whole rs)) rest (run s (length (whole rs))) (run s (length (whole rs)))
+      → Row w u s (length (whole rs)) (w.form.cost * length (whole rs)) rest
   unfolding run
-  runs_row [] u s rest is fit has a so calm = led_more w u 0 0 0 (w.form.cost * 0) rest s s (omega arith) (omega arith) (led_none w u rest s s a)
+  runs_row [] u s rest is fit has a so calm = record { led = record { steps = 0; to = u; at_least = omega arith; within = omega arith; walk = walk_none (Calm w) u; at = a; cursor = refl; sign = refl }; trail = trail_none w u s (met_at w u s rest a so.over.going) }
   runs_row (r ∷ rs) u s rest is fit has a so calm =
       let ys = whole rs in
       let both = and_parts _ _ is in
@@ -85,18 +83,28 @@ module _ (w : World) (law : Mirrors w) where
       let mid = runs_items w.form rs (s.pc + 4 * length r) ++ rest in
       let a1 : At w u (here ++ mid) s s = subst (λ l. At w u l s s) (append_assoc here (runs_items w.form rs (s.pc + 4 * length r)) rest) a in
       let first = one_run r u s mid both.0 f.0 (has_front w.source s.pc r ys has) a1 so calm1 in
-      let n = w.form.cost * length r in
-      let m = w.form.cost * length ys in
-      let all = led_on w u (length r) n (length ys) m mid rest t t (run t (length ys)) (run t (length ys)) first
-      (λ y b. runs_row rs y t rest both.1 f.1 (subst (λ p. HasAt w.source p ys) (sym x.pc) (has_rest w.source s.pc r ys has)) (subst (λ p. At w y (runs_items w.form rs p ++ rest) t t) (sym x.pc) b) x.sourced calm2) in
+      let y = first.led.to in
+      let more = runs_row rs y t rest both.1 f.1 (subst (λ p. HasAt w.source p ys) (sym x.pc) (has_rest w.source s.pc r ys has)) (subst (λ p. At w y (runs_items w.form rs p ++ rest) t t) (sym x.pc) first.led.at) x.sourced calm2 in
       let same : w.form.cost * length r + w.form.cost * length ys ≡ w.form.cost * length (r ++ ys) = omega arith ∙ ap (λ k. w.form.cost * k) (sym len) in
-      led_more w u (length r + length ys) (n + m) (length (r ++ ys)) (w.form.cost * length (r ++ ys)) rest (run s (length (r ++ ys))) (run s (length (r ++ ys))) (omega (arith, len)) (omega (arith, same)) (subst (λ z. Led w u (length r + length ys) (n + m) rest z z) (sym last) all)
+      record {
+        led = record {
+          steps = first.led.steps + more.led.steps;
+          to = more.led.to;
+          at_least = omega (arith, first.led.at_least, more.led.at_least, len);
+          within = omega (arith, first.led.within, more.led.within, same);
+          walk = walk_on (Calm w) u y more.led.to first.led.steps more.led.steps first.led.walk more.led.walk;
+          at = subst (λ z. At w more.led.to rest z z) (sym last) more.led.at;
+          cursor = more.led.cursor ∙ first.led.cursor;
+          sign = more.led.sign ∙ first.led.sign;
+        };
+        trail = trail_on w u s y t (length r) first.led.steps first.led.walk.ends refl first.trail (length ys) more.led.steps (length (r ++ ys)) len more.trail;
+      }
 
   -- to the n-th instruction
   runs_inside :
       (rs : List (List Ins)) (n : ℕ) (u s : State) (rest : List Item) → n < length (whole rs) → all_runs rs ≡ true → AllFit (whole rs)
       → HasAt w.source s.pc (whole rs) → At w u (runs_items w.form rs s.pc ++ rest) s s → Sourced w s → NotTrapped (run s n)
-      → GoesTo w u n (w.form.cost * length (whole rs)) (λ k x. Inside w s n x)
+      → GoesTo w u n (w.form.cost * length (whole rs)) (λ k x. Inside w u s n k x × (k < w.form.cost * length (whole rs)))
   runs_inside [] n u s rest l is fit has a so calm = absurd (omega (arith, l))
   runs_inside (r ∷ rs) n u s rest l is fit has a so calm = ⊎_elim inside (λ h. behind (λ k y t few here b x c. runs_inside rs k y t rest few both.1 f.1 here b x c) h) (cases_lt n (length r)) where
     ys : List Ins
@@ -121,18 +129,18 @@ module _ (w : World) (law : Mirrors w) where
     a1 = subst (λ l. At w u l s s) (append_assoc (each_part original r s.pc ++ each_part w.form.mirror r s.pc) (runs_items w.form rs (s.pc + 4 * length r)) rest) a
 
     -- in this run
-    inside : n < length r → GoesTo w u n (w.form.cost * length (r ++ whole rs)) (λ k x. Inside w s n x)
+    inside : n < length r → GoesTo w u n (w.form.cost * length (r ++ whole rs)) (λ k x. Inside w u s n k x × (k < w.form.cost * length (r ++ whole rs)))
     inside h =
         let a2 : At w u (each_part original r s.pc ++ (each_part w.form.mirror r s.pc ++ mid)) s s = subst (λ l. At w u l s s) (append_assoc (each_part original r s.pc) (each_part w.form.mirror r s.pc) mid) a1 in
         let g = front_row w r n u s (each_part w.form.mirror r s.pc ++ mid) h f.0 both.0 front a2 so calm in
-        let few : n ≤ length (r ++ whole rs) = omega (arith, h, len) in
-        let m : 3 * n ≤ w.form.cost * length (r ++ whole rs) = mul-le-mul law.enough few in
-        record { steps = g.steps; to = g.to; at_least = g.at_least; within = omega (arith, g.within, m); walk = g.walk; is = g.is }
+        let few : suc n ≤ length (r ++ whole rs) = omega (arith, h, len) in
+        let m : 3 * suc n ≤ w.form.cost * length (r ++ whole rs) = mul-le-mul law.enough few in
+        record { steps = g.steps; to = g.to; at_least = g.at_least; within = omega (arith, g.within, m); walk = g.walk; is = (g.is, omega (arith, g.within, m)) }
 
     -- in a later one
     behind :
-        ((k : ℕ) (y t : State) → k < length (whole rs) → HasAt w.source t.pc (whole rs) → At w y (runs_items w.form rs t.pc ++ rest) t t → Sourced w t → NotTrapped (run t k) → GoesTo w y k (w.form.cost * length (whole rs)) (λ j x. Inside w t k x))
-        → length r ≤ n → GoesTo w u n (w.form.cost * length (r ++ whole rs)) (λ k x. Inside w s n x)
+        ((k : ℕ) (y t : State) → k < length (whole rs) → HasAt w.source t.pc (whole rs) → At w y (runs_items w.form rs t.pc ++ rest) t t → Sourced w t → NotTrapped (run t k) → GoesTo w y k (w.form.cost * length (whole rs)) (λ j x. Inside w y t k j x × (j < w.form.cost * length (whole rs))))
+        → length r ≤ n → GoesTo w u n (w.form.cost * length (r ++ whole rs)) (λ k x. Inside w u s n k x × (k < w.form.cost * length (r ++ whole rs)))
     behind rec h =
         let t = run s (length r) in
         let k = n - length r in
@@ -142,16 +150,17 @@ module _ (w : World) (law : Mirrors w) where
         let calm1 = not_trapped_front k t calm2 in
         let x = source_run w r (length r) s (omega arith) f.0 so front calm1 in
         let g = one_run r u s mid both.0 f.0 front a1 so calm1 in
-        let b : At w g.to (runs_items w.form rs t.pc ++ rest) t t = subst (λ p. At w g.to (runs_items w.form rs p ++ rest) t t) (sym x.pc) g.at in
-        let y = rec k g.to t (omega (arith, h, l, len)) (subst (λ p. HasAt w.source p (whole rs)) (sym x.pc) (has_rest w.source s.pc r (whole rs) has)) b x.sourced calm2 in
+        let z = g.led.to in
+        let b : At w z (runs_items w.form rs t.pc ++ rest) t t = subst (λ p. At w z (runs_items w.form rs p ++ rest) t t) (sym x.pc) g.led.at in
+        let y = rec k z t (omega (arith, h, l, len)) (subst (λ p. HasAt w.source p (whole rs)) (sym x.pc) (has_rest w.source s.pc r (whole rs) has)) b x.sourced calm2 in
         let same : w.form.cost * length r + w.form.cost * length (whole rs) ≡ w.form.cost * length (r ++ whole rs) = omega arith ∙ ap (λ k. w.form.cost * k) (sym len) in
         record {
-          steps = g.steps + y.steps;
+          steps = g.led.steps + y.steps;
           to = y.to;
-          at_least = omega (arith, g.at_least, y.at_least, sum);
-          within = omega (arith, g.within, y.within, same);
-          walk = walk_on (Calm w) u g.to y.to g.steps y.steps g.walk y.walk;
-          is = record { going = y.is.going; holds = subst (λ z. Holds w y.to z) (sym last) y.is.holds };
+          at_least = omega (arith, g.led.at_least, y.at_least, sum);
+          within = omega (arith, g.led.within, y.within, same);
+          walk = walk_on (Calm w) u z y.to g.led.steps y.steps g.led.walk y.walk;
+          is = (record { going = y.is.0.going; trail = trail_on w u s z t (length r) g.led.steps g.led.walk.ends refl g.trail k y.steps n (sym sum) y.is.0.trail }, omega (arith, g.led.within, y.is.1, same));
         }
 
 -- ---- the words
@@ -200,25 +209,26 @@ module _ (cut : List Ins → List (List Ins)) (keeps : (is : List Ins) → whole
 
     inside_law :
         (is : List Ins) (n : ℕ) (u s : State) (rest : List Item) → n < length is → PieceAt w j s.pc is → At w u (j.code.piece is s.pc ++ rest) s s
-        → Sourced w s → NotTrapped (run s n) → GoesTo w u n j.piece_steps (λ k x. Inside w s n x)
+        → Sourced w s → NotTrapped (run s n) → GoesTo w u n j.piece_steps (λ k x. Inside w u s n k x × (k < j.piece_steps))
     inside_law is n u s rest l p a so calm =
         let a1 = subst (λ l. At w u l s s) (append_assoc (runs_items w.form (cut is) s.pc) checks rest) a in
         let count : length (whole (cut is)) ≡ length is = ap length (keeps is) in
         let g = runs_inside w law (cut is) n u s (checks ++ rest) (omega (arith, l, count)) (and_parts _ _ p.one).0 (subst AllFit (sym (keeps is)) p.fit) (subst (HasAt w.source s.pc) (sym (keeps is)) p.has) a1 so calm in
         let m = few is p.one in
         let same : w.form.cost * length (whole (cut is)) ≡ w.form.cost * length is = ap (λ k. w.form.cost * k) count in
-        record { steps = g.steps; to = g.to; at_least = g.at_least; within = omega (arith, g.within, m, same); walk = g.walk; is = g.is }
+        record { steps = g.steps; to = g.to; at_least = g.at_least; within = omega (arith, g.within, m, same); walk = g.walk; is = (g.is.0, omega (arith, g.is.1, m, same)) }
 
     piece_law :
         (is : List Ins) (b : ℕ) (u s : State) (rest : List Item) → j.held w u b ≡ true → PieceAt w j s.pc is → At w u (j.code.piece is s.pc ++ rest) s s
-        → Sourced w s → NotTrapped (run s (length is)) → GoesTo w u (length is) j.piece_steps (λ n x. (At w x rest (run s (length is)) (run s (length is)) × (j.held w x b ≡ true)) × Checked w j.compare_steps j.round u n x)
+        → Sourced w s → NotTrapped (run s (length is)) → GoesTo w u (length is) j.piece_steps (λ n x. (At w x rest (run s (length is)) (run s (length is)) × (j.held w x b ≡ true) × Trail w u s (length is) n) × Checked w j.compare_steps j.round u n x)
     piece_law is b u s rest held p a so calm =
         let own = held_parts w u b held in
         let t = run s (length is) in
         let count : length (whole (cut is)) ≡ length is = ap length (keeps is) in
         let a1 = subst (λ l. At w u l s s) (append_assoc (runs_items w.form (cut is) s.pc) checks rest) a in
         let y0 = runs_row w law (cut is) u s (checks ++ rest) (and_parts _ _ p.one).0 (subst AllFit (sym (keeps is)) p.fit) (subst (HasAt w.source s.pc) (sym (keeps is)) p.has) a1 so (subst (λ n. NotTrapped (run s n)) (sym count) calm) in
-        let y : Led w u (length is) (w.form.cost * length is) (both w most ++ rest) t t = subst (λ n. Led w u n (w.form.cost * n) (both w most ++ rest) (run s n) (run s n)) count y0 in
+        let row : Row w u s (length is) (w.form.cost * length is) (both w most ++ rest) = subst (λ n. Row w u s n (w.form.cost * n) (both w most ++ rest)) count y0 in
+        let y = row.led in
         let x = (form_checks w.form).quiet.leads w (record { now = y.to; original = t; shadow = t; leads = leader }) rest tt y.at (refl, refl, subst (IsCursor w.form.spans) (sym y.cursor) own.1) in
         let m = few is p.one in
         ⊎_elim
@@ -231,10 +241,17 @@ module _ (cut : List Ins → List (List Ins)) (keeps : (is : List Ins) → whole
           at_least = omega (arith, y.at_least);
           within = omega (arith, y.within, x.within, m);
           walk = walk_on (Calm w) u y.to x.to.now y.steps x.steps y.walk x.walk;
-          is = ((subst (λ z. At w x.to.now rest t z) e.1.shadow a2, held_is w x.to.now b (e.1.sign ∙ y.sign ∙ own.0) (subst (IsCursor w.form.spans) (sym c.cursor) (words_within w.form.spans w.base w.form.round (reg u 15) w.spans_good own.1))), c);
+          is = ((subst (λ z. At w x.to.now rest t z) e.1.shadow a2, held_is w x.to.now b (e.1.sign ∙ y.sign ∙ own.0) (subst (IsCursor w.form.spans) (sym c.cursor) (words_within w.form.spans w.base w.form.round (reg u 15) w.spans_good own.1)), marks x.steps x.to.now row x.walk.ends (subst (λ z. At w x.to.now rest t z) e.1.shadow a2)), c);
         })
         (λ l. absurd l)
-        x.ends
+        x.ends where
+          -- the checks move the last mark
+          marks : (k : ℕ) (z : State) → (row : Row w u s (length is) (w.form.cost * length is) (both w most ++ rest)) → run row.led.to k ≡ z → At w z rest (run s (length is)) (run s (length is)) → Trail w u s (length is) (row.led.steps + k)
+          marks k z row e b =
+              let n = length is in
+              let there : run u (row.led.steps + k) ≡ z = run-more u row.led.steps k ∙ ap (λ x. run x k) row.led.walk.ends ∙ e in
+              let going = (source_run w is n s (omega arith) p.fit so p.has calm).sourced.over.going in
+              trail_later w u s n row.led.steps (row.led.steps + k) (omega arith) (met_same w (run u (row.led.steps + k)) z (run s n) (run s n) there refl (met_at w z (run s n) rest b going)) row.trail
 
     joined_rows : CheckedRows w j leader
     joined_rows =

@@ -5,11 +5,11 @@ use Rattle.qed_model.specs.declared.change.Change.{Change}
 use Rattle.machine.specs.declared.place.Place.TheVariants.{Reg}
 use Rattle.weave_core.specs.World.{start, zeros, Going, Fired, Beq, Bne, Ebreak, Jal, ins, execute, jumped, computed_value, value, holds}
 use Rattle.machine.specs.Struck.{struck}
-use Rattle.qed_model.specs.Promise.Caught.{Caught, Settles}
+use Rattle.qed_model.specs.Promise.InStep.{CaughtInStep, SettlesWithin}
 use Rattle.qed_model.specs.Promise.Changed.{changed_run}
 use Rattle.qed_model.specs.Promise.Closed.{is_closed, uses, guards_other, is_checked}
 use Rattle.qed_model.specs.Promise.Kept.{after_output, any_address}
-use Rattle.qed_model.proofs.Lemmas.{defaults, steady_any, any_reached}
+use Rattle.qed_model.proofs.Lemmas.{defaults, steady_any, any_reached, covers_steady}
 use Rattle.weave_examples.proofs.KnownFiles.{loop}
 use Rattle.weave_examples.proofs.LoopExample.{loop_plan, loop_told, loop_blocks}
 use Rattle.tests.proofs.Lemmas.{zeros_start}
@@ -18,7 +18,7 @@ use Rattle.weave_examples.proofs.LoopKept.{loop_words, loop_input, loop_output, 
 use Rattle.weave_examples.proofs.ListedChanges.{changed_go, closed_there}
 use Rattle.lockstep.proofs.Lemmas.{tests_caught}
 
-loop_caught : Caught loop_input loop_output any_address [] loop_plan.bounds
+loop_caught : CaughtInStep loop_input loop_output any_address [] loop_plan.bounds 32 120
 loop_caught = tests_caught loop defaults loop_blocks loop_words.0 loop_plan loop_words.1 loop_told any_address (any_reached loop defaults refl)
 
 -- 7 in x5 after some steps
@@ -44,8 +44,8 @@ is_open : is_closed (after_output loop_output zeros 72) 5 ≡ false
 unfolding uses is_checked guards_other
 is_open = ap (λ s. is_closed s 5) before_change ∙ closed_there loop_output 0x13000 loop_new_code loop_stand 5 (turn 1) 0x1319c (ins Beq 0 5 21 (pos 8)) (ins Ebreak 0 0 0 (pos 0)) (ins Bne 0 5 0 (pos 8)) refl refl refl
 
-open_settles : Settles [] 72 272 (changed_run (start loop_output zeros) (seven 72 ∷ [])) (after_output loop_output zeros)
-open_settles = loop_caught.settles zeros (seven 72 ∷ []) 272 zeros_start tt ((omega arith, omega arith), is_open, tt) refl ((steady_any loop_input (72 + 272)).1 (input_ended (72 + 272) (omega arith))) (ap (λ s. s.outcome) before_change)
+open_settles : SettlesWithin [] 72 272 (changed_run (start loop_output zeros) (seven 72 ∷ [])) (after_output loop_output zeros)
+open_settles = loop_caught.settles zeros (seven 72 ∷ []) 272 zeros_start tt ((omega arith, omega arith), is_open, tt) refl (covers_steady loop_input loop_output any_address 32 120 zeros (72 + 272) ((steady_any loop_input (72 + 272)).1 (input_ended (72 + 272) (omega arith)))) (ap (λ s. s.outcome) before_change)
 
 -- ---- a change at a closed place, which the promise leaves out: the use of x5 is next
 at_use : is_closed (after_output loop_output zeros 73) 5 ≡ true

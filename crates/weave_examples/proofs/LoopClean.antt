@@ -7,12 +7,12 @@ use Rattle.machine.specs.Loading.{loaded_file}
 use Rattle.weave_core.specs.World.{Program, memory_of, start, zeros, Going, Ended, Fired, Beq, Bne, Ebreak, Ins, ins, HasAt, fetched_at, execute, jumped, computed_value, value, holds}
 use Rattle.qed_model.specs.Promise.Caught.{Same}
 use Rattle.qed_model.specs.Promise.Changed.{changed_run}
-use Rattle.qed_model.specs.Promise.Clean.{Clean}
+use Rattle.qed_model.specs.Promise.InStep.{CleanInStep}
 use Rattle.qed_model.specs.Promise.Closed.{is_closed, uses, guards_other, is_checked}
 use Rattle.qed_model.specs.Promise.Kept.{after_output, any_address}
 use Rattle.qed_model.specs.Weave.Placed.{placed}
 use Rattle.qed_model.specs.Weave.Woven.{woven_file, new_items}
-use Rattle.qed_model.proofs.Lemmas.{swept, sound, steady_any, any_reached}
+use Rattle.qed_model.proofs.Lemmas.{swept, sound, steady_any, any_reached, covers_steady}
 use Rattle.weave_examples.proofs.KnownFiles.{loop, loop_sound}
 use Rattle.weave_examples.proofs.LoopExample.{loop_swept_admitted, loop_blocks, loop_are}
 use Rattle.machine.proofs.Lemmas.{run-more}
@@ -33,7 +33,7 @@ abbrev output : Program
 output = loaded_file (file_read (woven_file loop swept loop_blocks words.0))
 
 -- no change is silent at the end that was made before the last 14 steps
-clean : Clean loop_input output any_address [] 14
+clean : CleanInStep loop_input output any_address [] 14 46 120
 clean = tests_clean loop swept loop_blocks words.0 words.1 refl any_address (any_reached loop swept refl)
 
 -- ---- its run, over the instructions of its new code
@@ -69,4 +69,4 @@ is_open = ap (λ s. is_closed s 5) (output_run 72 refl) ∙ closed_there output 
 
 -- all premises of the promise are met
 not_silent : ((changed_run (start output zeros) (seven 72 ∷ []) 130).outcome ≡ Fired) ⊎ (((changed_run (start output zeros) (seven 72 ∷ []) 130).outcome ≡ Ended) × Same [] (changed_run (start output zeros) (seven 72 ∷ []) 130) (after_output output zeros 130))
-not_silent = clean.settles zeros (seven 72 ∷ []) 130 zeros_start tt ((omega arith, omega arith), is_open, tt) (omega arith) output_end not_before ((steady_any loop_input 130).1 (input_ended 130 (omega arith)))
+not_silent = clean.settles zeros (seven 72 ∷ []) 130 zeros_start tt ((omega arith, omega arith), is_open, tt) (omega arith) output_end not_before (covers_steady loop_input output any_address 46 120 zeros 130 ((steady_any loop_input 130).1 (input_ended 130 (omega arith))))

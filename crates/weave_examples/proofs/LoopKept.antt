@@ -3,8 +3,10 @@ use Rattle.std.proofs.Common.{◌≡◌, inl, inr, ℕ, ◌+◌, ◌-◌, ◌≤
 use Rattle.tests.specs.Elf.FileRead.{file_read}
 use Rattle.machine.specs.Loading.{load_segments, loaded_file}
 use Rattle.weave_core.specs.World.{Program, memory_of, start, zeros, Going, Ended, Ins, HasAt, fetched_at, execute, jumped, computed_value, value, holds}
-use Rattle.qed_model.specs.Promise.Kept.{Halves, Kept, after_input, after_output, is_trapped, NotTrapped, any_address}
-use Rattle.qed_model.specs.Promise.Landed.{Landed, Fires, placed_at}
+use Rattle.qed_model.specs.Promise.Kept.{Halves, after_input, after_output, is_trapped, NotTrapped, any_address}
+use Rattle.qed_model.specs.Promise.Landed.{Fires, placed_at}
+use Rattle.qed_model.specs.Promise.InStep.{LandedInStep}
+use Rattle.qed_model.specs.Promise.OwnSteps.{KeptInStep, arrival}
 use Rattle.qed_model.specs.Weave.Placed.{placed}
 use Rattle.qed_model.specs.Weave.Woven.{woven_file, new_items}
 use Rattle.qed_model.proofs.Lemmas.{defaults, sound, steady_any, any_reached}
@@ -28,10 +30,10 @@ loop_input = loaded_file loop
 abbrev pub loop_output : Program
 loop_output = loaded_file (file_read (woven_file loop defaults loop_blocks loop_words.0))
 
-loop_kept : Kept loop_input loop_output any_address 32 120
+loop_kept : KeptInStep loop_input loop_output any_address 4096 32 120
 loop_kept = tests_kept loop defaults loop_blocks loop_words.0 loop_plan loop_words.1 loop_told any_address (any_reached loop defaults refl)
 
-loop_landed : Landed 4 loop_input loop_output any_address loop_plan.entries
+loop_landed : LandedInStep 4 loop_input loop_output any_address loop_plan.entries 32 120
 loop_landed = tests_landed loop defaults loop_blocks loop_words.0 loop_words.1 any_address (any_reached loop defaults refl)
 
 -- ---- what stands where
@@ -87,9 +89,10 @@ input_ended n l =
 -- after some steps, and not more than 872, the output has ended with what the input has at its end
 kept_end : (m : ℕ) × (m ≤ 872) × Halves loop_input (after_input loop_input 6) (after_output loop_output zeros m) × ((after_output loop_output zeros m).outcome ≡ Ended)
 kept_end =
-    let p = loop_kept.values zeros 6 zeros_start ((steady_any loop_input 6).1 (input_ended 6 (omega arith))) in
-    let within = p.within in
-    (p.steps, omega (arith, within), p.halves, p.ends.1 (ap (λ s. s.outcome) input_end))
+    let p = loop_kept zeros zeros_start in
+    let steady = (steady_any loop_input 6).1 (input_ended 6 (omega arith)) in
+    let within = p.within 6 in
+    (arrival loop_input loop_output 32 120 zeros 6, omega (arith, within), p.halves 6 steady, (p.ends 6 steady).1 (ap (λ s. s.outcome) input_end))
 
 -- after 30 steps it stands at the entry of 0x10000
 at_entry : ((after_output loop_output zeros 30).outcome ≡ Going) × ((after_output loop_output zeros 30).pc ≡ 0x13078)
@@ -99,4 +102,4 @@ at_entry = let e = output_run 30 refl in (ap (λ s. s.outcome) e, ap (λ s. s.pc
 -- at that of 0x1000c, the same state fires within 4 steps
 landed_wrong : Fires 4 (placed_at 0x131b0 (after_output loop_output zeros 30))
 landed_wrong =
-    loop_landed.fires zeros 30 0x10000 0x1000c 0x13078 0x131b0 zeros_start ((steady_any loop_input 30).1 (input_ended 30 (omega arith))) (inl (refl, refl)) (inr (inr (inl (refl, refl)))) (λ e. absurd (omega (arith, e))) at_entry.0 at_entry.1
+    loop_landed.fires zeros 30 0x10000 0x1000c 0x13078 0x131b0 zeros_start (inr ((steady_any loop_input 30).1 (input_ended 30 (omega arith)))) (inl (refl, refl)) (inr (inr (inl (refl, refl)))) (λ e. absurd (omega (arith, e))) at_entry.0 at_entry.1

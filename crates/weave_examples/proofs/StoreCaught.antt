@@ -13,9 +13,8 @@ use Rattle.tests.specs.Elf.Sound.{AreLoads}
 use Rattle.qed_model.specs.declared.change.Change.{Change}
 use Rattle.machine.specs.declared.place.Place.TheVariants.{Word}
 use Rattle.qed_model.specs.Promise.Changed.{changed_run}
-use Rattle.qed_model.specs.Promise.Caught.{Caught, Settles}
-use Rattle.qed_model.specs.Promise.Clean.{Clean}
-use Rattle.qed_model.proofs.Lemmas.{defaults, swept, steady_any, any_reached}
+use Rattle.qed_model.specs.Promise.InStep.{CaughtInStep, CleanInStep, SettlesWithin}
+use Rattle.qed_model.proofs.Lemmas.{defaults, swept, steady_any, any_reached, covers_steady}
 use Rattle.weave_core.proofs.Lemmas.{run-ended}
 use Rattle.lockstep.proofs.Lemmas.{tests_caught, tests_clean}
 use Rattle.weave_examples.proofs.KnownFiles.{store, store_sound}
@@ -116,11 +115,11 @@ abbrev spans : List (ℕ × ℕ)
 spans = (0x20000, 0x20008) ∷ []
 
 -- a change of a register is caught within 272 steps, one of the data word within 392
-store_caught : Caught store_input store_output any_address spans (record { piece = 120; register = 272; word = Some 392; start = 32 })
+store_caught : CaughtInStep store_input store_output any_address spans (record { piece = 120; register = 272; word = Some 392; start = 32 }) 32 120
 store_caught = tests_caught store defaults store_blocks store_words.0 store_plan store_words.1 store_told any_address (any_reached store defaults refl)
 
 -- with the sweep no change is silent at the end that was made before the last 24 steps
-store_clean : Clean store_input swept_output any_address spans 24
+store_clean : CleanInStep store_input swept_output any_address spans 24 56 120
 store_clean = tests_clean store swept store_blocks swept_words.0 swept_words.1 refl any_address (any_reached store swept refl)
 
 -- ---- at work: another number in the data word, before the first step
@@ -128,6 +127,6 @@ abbrev nine : Change
 nine = record { step = 0; place = Word 0x20000; value = 9 }
 
 -- all premises of the promise are met
-word_settles : Settles spans 0 392 (changed_run (start store_output zeros) (nine ∷ [])) (after_output store_output zeros)
+word_settles : SettlesWithin spans 0 392 (changed_run (start store_output zeros) (nine ∷ [])) (after_output store_output zeros)
 unfolding run
-word_settles = store_caught.settles zeros (nine ∷ []) 392 zeros_start tt (inl (refl, omega arith, omega arith), tt, tt) refl ((steady_any store_input 392).1 (store_calm 392 (omega arith))) refl
+word_settles = store_caught.settles zeros (nine ∷ []) 392 zeros_start tt (inl (refl, omega arith, omega arith), tt, tt) refl (covers_steady store_input store_output any_address 32 120 zeros 392 ((steady_any store_input 392).1 (store_calm 392 (omega arith)))) refl

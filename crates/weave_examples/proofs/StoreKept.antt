@@ -3,8 +3,9 @@ use Rattle.std.proofs.Common.{ℕ, true, false, List, refl, arith}
 use Rattle.tests.specs.Elf.FileRead.{file_read}
 use Rattle.machine.specs.Loading.{loaded_file}
 use Rattle.machine.specs.Program.{Program}
-use Rattle.qed_model.specs.Promise.Kept.{Kept, any_address}
-use Rattle.qed_model.specs.Promise.Landed.{Landed}
+use Rattle.qed_model.specs.Promise.Kept.{any_address}
+use Rattle.qed_model.specs.Promise.InStep.{LandedInStep}
+use Rattle.qed_model.specs.Promise.OwnSteps.{KeptInStep}
 use Rattle.qed_model.specs.Weave.Woven.{woven_file}
 use Rattle.qed_model.proofs.Lemmas.{defaults, swept, sound, any_reached}
 use Rattle.weave_examples.proofs.KnownFiles.{store, store_sound}
@@ -31,9 +32,9 @@ swept_output = loaded_file (file_read (woven_file store swept store_blocks swept
 
 -- ---- the promises
 -- the values are kept: 32 steps come first, and 120 are those of a piece
-pub store_kept : Kept store_input store_output any_address 32 120
+pub store_kept : KeptInStep store_input store_output any_address 0x11000 32 120
 store_kept = tests_kept store defaults store_blocks store_words.0 store_plan store_words.1 store_told any_address (any_reached store defaults refl)
 
 -- a jump to a wrong entry fires
-pub store_landed : Landed 4 store_input store_output any_address store_plan.entries
+pub store_landed : LandedInStep 4 store_input store_output any_address store_plan.entries 32 120
 store_landed = tests_landed store defaults store_blocks store_words.0 store_words.1 any_address (any_reached store defaults refl)

@@ -10,10 +10,9 @@ use Rattle.tests.specs.Elf.Written.{fields_bytes, program_fields}
 use Rattle.machine.specs.Loading.{Segment, ElfFile, loaded_file}
 use Rattle.machine.specs.Program.{Program}
 use Rattle.machine.specs.Table.{Lui, Jal, Ld, Sd, Mul, Sub, Ecall, Add, Jalr, Ins, ins}
-use Rattle.qed_model.specs.Promise.Caught.{Caught}
-use Rattle.qed_model.specs.Promise.Clean.{Clean}
-use Rattle.qed_model.specs.Promise.Kept.{any_address, Kept}
-use Rattle.qed_model.specs.Promise.Landed.{Landed}
+use Rattle.qed_model.specs.Promise.InStep.{CaughtInStep, CleanInStep, LandedInStep}
+use Rattle.qed_model.specs.Promise.OwnSteps.{KeptInStep}
+use Rattle.qed_model.specs.Promise.Kept.{any_address}
 use Rattle.qed_model.specs.Weave.OutputFile.{has_table, piece_rows}
 use Rattle.qed_model.specs.Weave.Sequences.{Block, Stops}
 use Rattle.qed_model.specs.Weave.Woven.{is_far_code, new_entries, compared, woven_file, IsToldOf}
@@ -140,7 +139,7 @@ pub record FarPromised : Type 0 where
   pub far : is_far_code far_test far_options far_blocks ≡ true
   pub table : has_table far_blocks ≡ true
   pub told : IsToldOf (compared far_test far_options far_blocks) far_test far_options far_blocks far_plan
-  pub kept : Kept (loaded_file far_test) (far_output words) any_address 67 13470
-  pub landed : Landed 4 (loaded_file far_test) (far_output words) any_address far_plan.entries
-  pub caught : Caught (loaded_file far_test) (far_output words) any_address far_ranges far_plan.bounds
-  pub clean : Clean (loaded_file far_test) (far_output words) any_address far_ranges 34
+  pub kept : KeptInStep (loaded_file far_test) (far_output words) any_address far_plan.distance 67 13470
+  pub landed : LandedInStep 4 (loaded_file far_test) (far_output words) any_address far_plan.entries 67 13470
+  pub caught : CaughtInStep (loaded_file far_test) (far_output words) any_address far_ranges far_plan.bounds 67 13470
+  pub clean : CleanInStep (loaded_file far_test) (far_output words) any_address far_ranges 34 67 13470

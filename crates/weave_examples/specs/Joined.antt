@@ -3,10 +3,9 @@
 use Rattle.std.specs.Prelude.{◌≡◌, ◌≤◌, ℕ, ◌+◌, ◌*◌, Bool, true, cond, ◌&&◌, nat_le, List, [], ◌∷◌, ◌++◌, length}
 use Rattle.qed_model.specs.declared.bounds.Bounds.{Bounds}
 use Rattle.qed_model.specs.declared.plan.EntryRow.{EntryRow}
-use Rattle.qed_model.specs.Promise.Caught.{Caught}
-use Rattle.qed_model.specs.Promise.Clean.{Clean}
+use Rattle.qed_model.specs.Promise.InStep.{CaughtInStep, CleanInStep, LandedInStep}
 use Rattle.qed_model.specs.Promise.Kept.{Kept}
-use Rattle.qed_model.specs.Promise.Landed.{IsEntry, Landed}
+use Rattle.qed_model.specs.Promise.Landed.{IsEntry}
 use Rattle.qed_model.specs.Weave.Blocks.{begins_at}
 use Rattle.qed_model.specs.Weave.Pieces.{is_run, whole}
 use Rattle.qed_model.specs.Weave.Code.{sequences}
@@ -53,19 +52,19 @@ JoinedKept cut =
 abbrev pub JoinedLanded : (List Ins → List (List Ins)) → Type 0
 JoinedLanded cut =
     (f g : Program) (w : World) (most : ℕ) (blocks : List Block) (entries : List EntryRow) → PlanOf f g w (joined cut w.form most) blocks → Mirrors w
-    → ((a e : ℕ) → IsEntry entries a e → (begins_at blocks a ≡ true) × (e ≡ w.entry a)) → Landed 4 f g w.reached entries
+    → ((a e : ℕ) → IsEntry entries a e → (begins_at blocks a ≡ true) × (e ≡ w.entry a)) → LandedInStep 4 f g w.reached entries (start_steps (joined cut w.form most)) (stage_steps (joined cut w.form most))
 
 abbrev pub JoinedCaught : (List Ins → List (List Ins)) → Type 0
 JoinedCaught cut =
     (f g : Program) (w : World) (most : ℕ) (blocks : List Block) (bounds : Bounds) → PlanOf f g w (joined cut w.form most) blocks → Mirrors w
     → MirrorsFit w.form.far w.form.mirror → OnlyCode f g w (joined cut w.form most).code blocks → 1 ≤ w.form.round
-    → BoundsOf w (joined cut w.form most) bounds → Caught f g w.reached w.form.spans bounds
+    → BoundsOf w (joined cut w.form most) bounds → CaughtInStep f g w.reached w.form.spans bounds (start_steps (joined cut w.form most)) (stage_steps (joined cut w.form most))
 
 abbrev pub JoinedClean : (List Ins → List (List Ins)) → Type 0
 JoinedClean cut =
     (f g : Program) (w : World) (most : ℕ) (blocks : List Block) → PlanOf f g w (joined cut w.form most) blocks → Mirrors w
     → MirrorsFit w.form.far w.form.mirror → OnlyCode f g w (joined cut w.form most).code blocks → 1 ≤ w.form.round → w.form.sweep ≡ true
-    → Clean f g w.reached w.form.spans ((joined cut w.form most).sweep_steps + 14)
+    → CleanInStep f g w.reached w.form.spans ((joined cut w.form most).sweep_steps + 14) (start_steps (joined cut w.form most)) (stage_steps (joined cut w.form most))
 
 -- that the cut above keeps them, and gives runs: so each list of at most so many instructions is one piece
 abbrev pub CutsRuns : Type 0

@@ -1,8 +1,8 @@
 -- The new code with the pass, and what is promised of it.
 use Rattle.std.specs.Prelude.{ℕ, ◌+◌, ◌*◌, ◌≤◌, List, ◌++◌, length}
 use Rattle.qed_model.specs.declared.bounds.Bounds.{Bounds}
-use Rattle.qed_model.specs.Promise.Caught.{Caught}
-use Rattle.qed_model.specs.Promise.Kept.{Kept}
+use Rattle.qed_model.specs.Promise.InStep.{CaughtInStep}
+use Rattle.qed_model.specs.Promise.OwnSteps.{KeptInStep}
 use Rattle.tests.specs.Admission.DataRanges.{word_count}
 use Rattle.qed_model.specs.Weave.Bounds.{visit_bound}
 use Rattle.qed_model.specs.Weave.Sequences.{Form, Block, guard, compare, visit, ORIGINALS}
@@ -27,10 +27,10 @@ with_one form most = weave_with form most (checks_of form) 1 (steps_of form)
 abbrev pub OneKept : Type 0
 OneKept =
     (f g : Program) (w : World) (most : ℕ) (blocks : List Block) → PlanOf f g w (with_one w.form most) blocks → Mirrors w
-    → Kept f g w.reached (start_steps (with_one w.form most)) (stage_steps (with_one w.form most))
+    → KeptInStep f g w.reached w.distance (start_steps (with_one w.form most)) (stage_steps (with_one w.form most))
 
 abbrev pub OneCaught : Type 0
 OneCaught =
     (f g : Program) (w : World) (most : ℕ) (blocks : List Block) (bounds : Bounds) → PlanOf f g w (with_one w.form most) blocks → Mirrors w
     → MirrorsFit w.form.far w.form.mirror → OnlyCode f g w (with_one w.form most).code blocks → 1 ≤ w.form.round
-    → BoundsOf w (with_one w.form most) bounds → Caught f g w.reached w.form.spans bounds
+    → BoundsOf w (with_one w.form most) bounds → CaughtInStep f g w.reached w.form.spans bounds (start_steps (with_one w.form most)) (stage_steps (with_one w.form most))
