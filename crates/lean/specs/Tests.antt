@@ -14,13 +14,13 @@ use Rattle.tests.specs.Elf.Sound.{IsSound}
 use Rattle.machine.specs.Loading.{loaded_file}
 use Rattle.qed_model.specs.Promise.Caught.{Caught}
 use Rattle.qed_model.specs.Promise.Clean.{Clean}
-use Rattle.qed_model.specs.Promise.Kept.{Kept}
+use Rattle.qed_model.specs.Promise.OwnSteps.{KeptInStep}
 use Rattle.qed_model.specs.Promise.Landed.{Landed}
 use Rattle.qed_model.specs.Weave.Blocks.{AreBlocks, Options}
 use Rattle.qed_model.specs.Weave.OutputFile.{file_of}
 use Rattle.qed_model.specs.Weave.Placed.{Decode, sum_of_sizes, rows_from, placed}
 use Rattle.qed_model.specs.Weave.SoundOptions.{AreSoundOptions}
-use Rattle.tests.specs.Admission.Places.{image_of, code_place}
+use Rattle.tests.specs.Admission.Places.{image_of, half_of, code_place}
 use Rattle.qed_model.specs.Weave.Sequences.{Block}
 use Rattle.qed_model.specs.Weave.LeanCode.{lean_items}
 use Rattle.qed_model.specs.Weave.LeanBounds.{lean_bounds}
@@ -62,11 +62,11 @@ LeanTestsWritable =
     → length (lean_file f o every blocks words).segments ≤ limit_of limit.OutputSegments → length (written (lean_file f o every blocks words)) ≤ limit_of limit.OutputBytes
     → IsWritable (lean_file f o every blocks words)
 
--- the output keeps the input's values
+-- the output comes to the input's states in their order, with its values
 abbrev pub LeanTestsKept : Type 0
 LeanTestsKept =
     (f : ElfFile) (o : Options) (every : ℕ) (blocks : List Block) (words : List ℕ) → IsLeanTest f o every blocks words → (reached : ℕ → Bool) → AreReached f o reached
-    → Kept (loaded_file f) (loaded_file (file_read (lean_file f o every blocks words))) reached (lean_bounds f o every).start (lean_bounds f o every).piece
+    → KeptInStep (loaded_file f) (loaded_file (file_read (lean_file f o every blocks words))) reached (half_of o.half (image_of f)) (lean_bounds f o every).start (lean_bounds f o every).piece
 
 -- changes are caught
 abbrev pub LeanTestsCaught : Type 0

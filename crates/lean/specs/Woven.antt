@@ -7,6 +7,7 @@ use Rattle.qed_model.specs.Weave.Pieces.{is_run}
 use Rattle.qed_model.specs.Weave.Placed.{sum_of_sizes}
 use Rattle.qed_model.specs.Weave.Sequences.{Reads, End, Falls, Stops, Block}
 use Rattle.qed_model.specs.Promise.Kept.{Kept}
+use Rattle.qed_model.specs.Promise.OwnSteps.{KeptInStep}
 use Rattle.qed_model.specs.Promise.Landed.{IsEntry, Landed}
 use Rattle.qed_model.specs.declared.plan.EntryRow.{EntryRow}
 use Rattle.qed_model.specs.Weave.Blocks.{begins_at}
@@ -115,6 +116,10 @@ pub record LeanPlan (f g : Program) (w : World) (l : Lean) (blocks : List Block)
 -- a plan keeps the values
 abbrev pub LeanKept : Type 0
 LeanKept = (f g : Program) (w : World) (l : Lean) (blocks : List Block) → LeanPlan f g w l blocks → Kept f g w.reached (31 + swept_steps w) (27 + call_steps l.land + 2 * entry_steps l.land + check_steps w + cost_of l.diverse * l.inst_max)
+
+-- and the output comes to the input's states in their order
+abbrev pub LeanKeptInStep : Type 0
+LeanKeptInStep = (f g : Program) (w : World) (l : Lean) (blocks : List Block) → LeanPlan f g w l blocks → KeptInStep f g w.reached w.distance (31 + swept_steps w) (27 + call_steps l.land + 2 * entry_steps l.land + check_steps w + cost_of l.diverse * l.inst_max)
 
 pub record IsBoundsOf (w : World) (l : Lean) (bounds : Bounds) : Type 0 where
   pub register : bounds.register ≡ register_bound l.land (swept_steps w) (period l.land (check_steps w) l.every)

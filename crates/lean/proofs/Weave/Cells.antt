@@ -131,7 +131,7 @@ module _ (w : World) (l : Lean) (leader : ℕ → Bool) (x : LeanIn w l leader) 
         let rest = body_of v.code ps e (s.pc + 4 * length p) in
         let a1 : At w u (v.code.piece p s.pc ++ (pieces_of v.code ps (s.pc + 4 * length p) ++ v.code.leave e (s.pc + 4 * body_length (p ∷ ps)))) s s = subst (λ l. At w u l s s) (append_assoc (v.code.piece p s.pc) (pieces_of v.code ps (s.pc + 4 * length p)) (v.code.leave e (s.pc + 4 * body_length (p ∷ ps)))) a in
         let a2 : At w u (v.code.piece p s.pc ++ rest) s s = subst (λ k. At w u (v.code.piece p s.pc ++ (pieces_of v.code ps (s.pc + 4 * length p) ++ v.code.leave e k)) s s) far a1 in
-        let r = (piece_part l.diverse w p).row u s rest (record { fit = q.0.fit; clean = (and_parts _ _ q.0.one).0; has = q.0.has; sourced = so; calm = calm }) a2 in
+        let r = ((piece_part l.diverse w p).row u s rest (record { fit = q.0.fit; clean = (and_parts _ _ q.0.one).0; has = q.0.has; sourced = so; calm = calm }) a2).led in
         let next_pc : t.pc + 4 * body_length ps ≡ at = ap (λ k. k + 4 * body_length ps) there ∙ sym far ∙ here in
         let count : length p + (body_length ps + 2) ≡ body_length (p ∷ ps) + 2 = omega arith in
         let more = through ps r.to t next_pc (subst (λ k. At w r.to (body_of v.code ps e k) t t) (sym there) r.at) y.sourced (subst (λ k. PiecesAt w v leader ps e k) (sym there) q.1) (r.sign ∙ sign) (steady_rest w.reached s k (body_length ps + 2) (subst (IsSteady w.reached s) (sym count) steady)) in

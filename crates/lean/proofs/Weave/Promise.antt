@@ -6,6 +6,7 @@ use Rattle.machine.specs.Members.{Among}
 use Rattle.qed_model.specs.Promise.Caught.{Caught}
 use Rattle.qed_model.specs.Promise.Clean.{Clean}
 use Rattle.qed_model.specs.Promise.Kept.{Kept}
+use Rattle.qed_model.specs.Promise.OwnSteps.{KeptInStep}
 use Rattle.qed_model.specs.Weave.Blocks.{begins_at}
 use Rattle.qed_model.specs.Weave.Code.{Sequences, entries_of}
 use Rattle.qed_model.specs.Weave.Pieces.{piece_count}
@@ -20,10 +21,10 @@ use Rattle.weave_core.specs.Kinds.{opens}
 use Rattle.weave_core.specs.Lock.{Opens}
 use Rattle.weave_core.specs.Leaving.{sweep_cost}
 use Rattle.weave_core.specs.WeaveLaws.{EntriesAt}
-use Rattle.weave_core.proofs.Lemmas.{reads_front, instructions_then, reads_words, stub_opens, items_then, all_land_append, has_rest, opens_behind, length-instructions, WeaveIn, kept, quiet_at}
+use Rattle.weave_core.proofs.Lemmas.{reads_front, instructions_then, reads_words, stub_opens, items_then, all_land_append, has_rest, opens_behind, length-instructions, WeaveIn, kept, in_step, quiet_at}
 use Rattle.lockstep.proofs.Lemmas.{round_some, CalmCode, cleaned, faults_found, WordAt, stub_words, reads_rest, word_of, stub_open, Times, BoundsBy, CaughtAll, caught_of, settles_all, Sizes, all_blocks}
 use Rattle.lockstep.specs.InstructionFaults.{FaultsFound}
-use Rattle.lean.specs.Woven.{LeanPlan, LeanKept, LeanCaught, LeanClean, IsBoundsOf, weave_of, check_steps, swept_steps}
+use Rattle.lean.specs.Woven.{LeanPlan, LeanKept, LeanKeptInStep, LeanCaught, LeanClean, IsBoundsOf, weave_of, check_steps, swept_steps}
 use Rattle.lean.proofs.Weave.Beats.{sizes, traced, Bound, swept_end}
 use Rattle.lean.proofs.Weave.Begin.{lean_starts}
 use Rattle.lean.proofs.Weave.Cells.{Counts}
@@ -221,10 +222,15 @@ module _ (f g : Program) (w : World) (l : Lean) (blocks : List Block) (p : LeanP
   }
 
 -- ---- the laws
+-- the bound on the steps for each step of the input
+stage_is : (l : Lean) (c m : ℕ) → 2 * entry_steps l.land + (call_steps l.land + c) + (m + 27) ≡ 27 + call_steps l.land + 2 * entry_steps l.land + c + m
+stage_is l c m = omega arith
+
 pub lean_kept : LeanKept
-lean_kept f g w l blocks p = subst (λ n. Kept f g w.reached (31 + swept_steps w) n) (sum (check_steps w) (cost_of l.diverse * l.inst_max)) (kept f g w (weave_of w l (begins_at blocks)) (begins_at blocks) (woven f g w l blocks p)) where
-  sum : (c m : ℕ) → 2 * entry_steps l.land + (call_steps l.land + c) + (m + 27) ≡ 27 + call_steps l.land + 2 * entry_steps l.land + c + m
-  sum c m = omega arith
+lean_kept f g w l blocks p = subst (λ n. Kept f g w.reached (31 + swept_steps w) n) (stage_is l (check_steps w) (cost_of l.diverse * l.inst_max)) (kept f g w (weave_of w l (begins_at blocks)) (begins_at blocks) (woven f g w l blocks p))
+
+pub lean_in_step : LeanKeptInStep
+lean_in_step f g w l blocks p = subst (λ n. KeptInStep f g w.reached w.distance (31 + swept_steps w) n) (stage_is l (check_steps w) (cost_of l.diverse * l.inst_max)) (in_step f g w (weave_of w l (begins_at blocks)) (begins_at blocks) (woven f g w l blocks p) (omega arith))
 
 pub lean_caught : LeanCaught
 lean_caught f g w l blocks bounds p round are = catches f g w l blocks p round bounds are
