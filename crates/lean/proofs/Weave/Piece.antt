@@ -48,7 +48,7 @@ pub record Row (w : World) (u s : State) (n most : ℕ) (rest : List Item) : Typ
   pub trail : Trail w u s n led.steps
 
 -- both halves are those of s
-met_at : (w : World) (u s : State) (rest : List Item) → At w u rest s s → s.outcome ≡ Going → Met w u s
+pub met_at : (w : World) (u s : State) (rest : List Item) → At w u rest s s → s.outcome ≡ Going → Met w u s
 met_at w u s rest a going = met_going w u s (holds_of w u s s a.halved) a.over.going going
 
 -- ---- a run
