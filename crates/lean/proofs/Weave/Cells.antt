@@ -1,15 +1,13 @@
 -- From an entry to the next call of the check, or to the end of the test: block after block, as long as steps are left.
 use Rattle.std.proofs.Common.{◌≡◌, ℕ, zero, suc, ◌+◌, ◌-◌, ◌*◌, ◌^◌, ◌<◌, ◌≤◌, ◌⊎◌, inl, inr, ⊎_elim, Bool, true, false, cond, List, [], ◌∷◌, ◌++◌, length, refl, sym, ap, ◌∙◌, subst, arith, append_assoc}
-use Rattle.std.specs.Prelude.{◌==◌, ◌||◌}
 use Rattle.std.proofs.lemmas.Bool.{and_parts, eqb-true, cases_lt}
 use Rattle.qed_model.specs.Promise.Kept.{NotTrapped, IsSteady}
 use Rattle.qed_model.specs.Weave.LeanBounds.{entry_steps, call_steps}
 use Rattle.qed_model.specs.Weave.Code.{body_of, pieces_of}
-use Rattle.qed_model.specs.Weave.Sequences.{Reads, End, Falls, Stops, body_length, before_end, class_of, CURSOR, SIGNATURE}
-use Rattle.machine.specs.Operands.{is_auipc}
-use Rattle.qed_model.specs.Weave.Costs.{cost_each, original_cost}
+use Rattle.qed_model.specs.Weave.Sequences.{Reads, End, Falls, Stops, body_length, before_end, CURSOR, SIGNATURE}
+use Rattle.qed_model.specs.Weave.Costs.{cost_each}
 use Rattle.qed_model.specs.Weave.Lean.{first_word, leave, leave_cost}
-use Rattle.qed_model.specs.Weave.LeanCode.{Lean, is_store, store_steps, both_steps, mirror_steps_of, body_steps, fall_to, leads_on}
+use Rattle.qed_model.specs.Weave.LeanCode.{Lean, both_steps, body_steps, fall_to, leads_on}
 use Rattle.machine.proofs.Lemmas.{run-more, Walk, walk_on}
 use Rattle.weave_core.specs.World.{World, Quiet, Twice, IsCursor, Going, Ended, State, reg, run, Ins, Item}
 use Rattle.weave_core.specs.Blocks.{IsEntryOf}
