@@ -12,15 +12,13 @@ use Rattle.tests.specs.Elf.FileRead.{file_read}
 use Rattle.tests.specs.Elf.Layout.{written, IsWritable}
 use Rattle.tests.specs.Elf.Sound.{IsSound}
 use Rattle.machine.specs.Loading.{loaded_file}
-use Rattle.qed_model.specs.Promise.Caught.{Caught}
-use Rattle.qed_model.specs.Promise.Clean.{Clean}
-use Rattle.qed_model.specs.Promise.Kept.{Kept}
-use Rattle.qed_model.specs.Promise.Landed.{Landed}
+use Rattle.qed_model.specs.Promise.InStep.{CaughtInStep, CleanInStep, LandedInStep}
+use Rattle.qed_model.specs.Promise.OwnSteps.{KeptInStep}
 use Rattle.qed_model.specs.Weave.Blocks.{AreBlocks, Options}
 use Rattle.qed_model.specs.Weave.OutputFile.{file_of}
 use Rattle.qed_model.specs.Weave.Placed.{Decode, sum_of_sizes, rows_from, placed}
 use Rattle.qed_model.specs.Weave.SoundOptions.{AreSoundOptions}
-use Rattle.tests.specs.Admission.Places.{image_of, code_place}
+use Rattle.tests.specs.Admission.Places.{image_of, half_of, code_place}
 use Rattle.qed_model.specs.Weave.Sequences.{Block}
 use Rattle.qed_model.specs.Weave.LeanCode.{lean_items}
 use Rattle.qed_model.specs.Weave.LeanBounds.{lean_bounds}
@@ -62,29 +60,29 @@ LeanTestsWritable =
     → length (lean_file f o every blocks words).segments ≤ limit_of limit.OutputSegments → length (written (lean_file f o every blocks words)) ≤ limit_of limit.OutputBytes
     → IsWritable (lean_file f o every blocks words)
 
--- the output keeps the input's values
+-- the output comes to the input's states in their order, with its values
 abbrev pub LeanTestsKept : Type 0
 LeanTestsKept =
     (f : ElfFile) (o : Options) (every : ℕ) (blocks : List Block) (words : List ℕ) → IsLeanTest f o every blocks words → (reached : ℕ → Bool) → AreReached f o reached
-    → Kept (loaded_file f) (loaded_file (file_read (lean_file f o every blocks words))) reached (lean_bounds f o every).start (lean_bounds f o every).piece
+    → KeptInStep (loaded_file f) (loaded_file (file_read (lean_file f o every blocks words))) reached (half_of o.half (image_of f)) (lean_bounds f o every).start (lean_bounds f o every).piece
 
 -- changes are caught
 abbrev pub LeanTestsCaught : Type 0
 LeanTestsCaught =
     (f : ElfFile) (o : Options) (every : ℕ) (blocks : List Block) (words : List ℕ) → IsLeanTest f o every blocks words → (reached : ℕ → Bool) → AreReached f o reached
-    → Caught (loaded_file f) (loaded_file (file_read (lean_file f o every blocks words))) reached (data_ranges (image_of f)) (lean_bounds f o every)
+    → CaughtInStep (loaded_file f) (loaded_file (file_read (lean_file f o every blocks words))) reached (data_ranges (image_of f)) (lean_bounds f o every) (lean_bounds f o every).start (lean_bounds f o every).piece
 
 -- so is a wrong result of an instruction
 abbrev pub LeanTestsFaults : Type 0
 LeanTestsFaults =
     (f : ElfFile) (o : Options) (every : ℕ) (blocks : List Block) (words : List ℕ) → IsLeanTest f o every blocks words → (reached : ℕ → Bool) → AreReached f o reached
-    → FaultsFound (loaded_file f) (loaded_file (file_read (lean_file f o every blocks words))) reached (data_ranges (image_of f)) (lean_bounds f o every)
+    → FaultsFound (loaded_file f) (loaded_file (file_read (lean_file f o every blocks words))) reached (data_ranges (image_of f)) (lean_bounds f o every) (lean_bounds f o every).start (lean_bounds f o every).piece
 
 -- where entries test the signature, jumps land
 abbrev pub LeanTestsLanded : Type 0
 LeanTestsLanded =
     (f : ElfFile) (o : Options) (every : ℕ) (blocks : List Block) (words : List ℕ) → IsLeanTest f o every blocks words → o.land ≡ true → (reached : ℕ → Bool) → AreReached f o reached
-    → Landed 4 (loaded_file f) (loaded_file (file_read (lean_file f o every blocks words))) reached (rows_from false (code_place o.half (image_of f)) (lean_items f o every blocks))
+    → LandedInStep 4 (loaded_file f) (loaded_file (file_read (lean_file f o every blocks words))) reached (rows_from false (code_place o.half (image_of f)) (lean_items f o every blocks)) (lean_bounds f o every).start (lean_bounds f o every).piece
 
 -- and where the code of a block runs under the signature of another one, the run is over soon
 abbrev pub LeanTestsStrayed : Type 0
@@ -96,4 +94,4 @@ LeanTestsStrayed =
 abbrev pub LeanTestsClean : Type 0
 LeanTestsClean =
     (f : ElfFile) (o : Options) (every : ℕ) (blocks : List Block) (words : List ℕ) → IsLeanTest f o every blocks words → o.sweep ≡ true → (reached : ℕ → Bool) → AreReached f o reached
-    → Clean (loaded_file f) (loaded_file (file_read (lean_file f o every blocks words))) reached (data_ranges (image_of f)) (sweep_cost (data_ranges (image_of f)) + 14)
+    → CleanInStep (loaded_file f) (loaded_file (file_read (lean_file f o every blocks words))) reached (data_ranges (image_of f)) (sweep_cost (data_ranges (image_of f)) + 14) (lean_bounds f o every).start (lean_bounds f o every).piece

@@ -7,12 +7,12 @@ use Rattle.qed_model.specs.Weave.Pieces.{is_run}
 use Rattle.qed_model.specs.Weave.Placed.{sum_of_sizes}
 use Rattle.qed_model.specs.Weave.Sequences.{Reads, End, Falls, Stops, Block}
 use Rattle.qed_model.specs.Promise.Kept.{Kept}
-use Rattle.qed_model.specs.Promise.Landed.{IsEntry, Landed}
+use Rattle.qed_model.specs.Promise.OwnSteps.{KeptInStep}
+use Rattle.qed_model.specs.Promise.Landed.{IsEntry}
+use Rattle.qed_model.specs.Promise.InStep.{CaughtInStep, CleanInStep, LandedInStep}
 use Rattle.qed_model.specs.declared.plan.EntryRow.{EntryRow}
 use Rattle.qed_model.specs.Weave.Blocks.{begins_at}
 use Rattle.qed_model.specs.Weave.Code.{code_of}
-use Rattle.qed_model.specs.Promise.Caught.{Caught}
-use Rattle.qed_model.specs.Promise.Clean.{Clean}
 use Rattle.qed_model.specs.Promise.Closed.{is_branch}
 use Rattle.qed_model.specs.declared.bounds.Bounds.{Bounds}
 use Rattle.qed_model.specs.Weave.Lean.{check, begin}
@@ -112,9 +112,20 @@ pub record LeanPlan (f g : Program) (w : World) (l : Lean) (blocks : List Block)
   pub counts : AreCounted l (begins_at blocks) blocks
 
 -- ---- the laws
+-- the bounds on the steps of the output: once, and for each step of the input and once more
+abbrev pub start_of : World → ℕ
+start_of w = 31 + swept_steps w
+
+abbrev pub piece_of : World → Lean → ℕ
+piece_of w l = 27 + call_steps l.land + 2 * entry_steps l.land + check_steps w + cost_of l.diverse * l.inst_max
+
 -- a plan keeps the values
 abbrev pub LeanKept : Type 0
-LeanKept = (f g : Program) (w : World) (l : Lean) (blocks : List Block) → LeanPlan f g w l blocks → Kept f g w.reached (31 + swept_steps w) (27 + call_steps l.land + 2 * entry_steps l.land + check_steps w + cost_of l.diverse * l.inst_max)
+LeanKept = (f g : Program) (w : World) (l : Lean) (blocks : List Block) → LeanPlan f g w l blocks → Kept f g w.reached (start_of w) (piece_of w l)
+
+-- and the output comes to the input's states in their order
+abbrev pub LeanKeptInStep : Type 0
+LeanKeptInStep = (f g : Program) (w : World) (l : Lean) (blocks : List Block) → LeanPlan f g w l blocks → KeptInStep f g w.reached w.distance (start_of w) (piece_of w l)
 
 pub record IsBoundsOf (w : World) (l : Lean) (bounds : Bounds) : Type 0 where
   pub register : bounds.register ≡ register_bound l.land (swept_steps w) (period l.land (check_steps w) l.every)
@@ -122,13 +133,13 @@ pub record IsBoundsOf (w : World) (l : Lean) (bounds : Bounds) : Type 0 where
 
 -- in a plan changes are caught
 abbrev pub LeanCaught : Type 0
-LeanCaught = (f g : Program) (w : World) (l : Lean) (blocks : List Block) (bounds : Bounds) → LeanPlan f g w l blocks → 1 ≤ w.form.round → IsBoundsOf w l bounds → Caught f g w.reached w.form.spans bounds
+LeanCaught = (f g : Program) (w : World) (l : Lean) (blocks : List Block) (bounds : Bounds) → LeanPlan f g w l blocks → 1 ≤ w.form.round → IsBoundsOf w l bounds → CaughtInStep f g w.reached w.form.spans bounds (start_of w) (piece_of w l)
 
 -- where entries test the signature, jumps land
 abbrev pub LeanLanded : Type 0
 LeanLanded =
     (f g : Program) (w : World) (l : Lean) (blocks : List Block) (entries : List EntryRow) → LeanPlan f g w l blocks → l.land ≡ true
-    → ((a e : ℕ) → IsEntry entries a e → (begins_at blocks a ≡ true) × (e ≡ w.entry a)) → Landed 4 f g w.reached entries
+    → ((a e : ℕ) → IsEntry entries a e → (begins_at blocks a ≡ true) × (e ≡ w.entry a)) → LandedInStep 4 f g w.reached entries (start_of w) (piece_of w l)
 
 -- and where the code of a block runs under the signature of another one, the run is over soon
 abbrev pub LeanStrayed : Type 0
@@ -140,4 +151,4 @@ LeanStrayed =
 abbrev pub LeanClean : Type 0
 LeanClean =
     (f g : Program) (w : World) (l : Lean) (blocks : List Block) → LeanPlan f g w l blocks → w.form.sweep ≡ true
-    → Clean f g w.reached w.form.spans (sweep_cost w.form.spans + 14)
+    → CleanInStep f g w.reached w.form.spans (sweep_cost w.form.spans + 14) (start_of w) (piece_of w l)

@@ -1,11 +1,17 @@
 //! What is promised of the lean form.
 ghost use Rattle.lean.specs.Tests.{LeanTestsHaveWords, LeanTestsWritable, LeanTestsKept, LeanTestsCaught, LeanTestsFaults, LeanTestsLanded, LeanTestsStrayed, LeanTestsClean};
-ghost use Rattle.lean.specs.Woven.{LeanKept, LeanCaught, LeanLanded, LeanStrayed, LeanClean};
+ghost use Rattle.lean.specs.Woven.{LeanKept, LeanKeptInStep, LeanCaught, LeanLanded, LeanStrayed, LeanClean};
 
 /// A plan of the form keeps the input's values, with a bound on the steps of the output for each step of the input, and no check
 /// fires without changes.
 pub fn lean_kept()
     ensures { LeanKept }
+{}
+
+/// In a plan of the form the output comes to the input's states in their order, each within the same bound, and ends with the input's
+/// values in both halves.
+pub fn lean_kept_in_step()
+    ensures { LeanKeptInStep }
 {}
 
 /// In a plan of the form changes of original registers and data words at open places are caught within the bounds.
@@ -39,7 +45,7 @@ pub fn lean_tests_writable()
     ensures { LeanTestsWritable }
 {}
 
-/// Then it keeps the test's values.
+/// Then it comes to the test's states in their order, with their values.
 pub fn lean_tests_kept()
     ensures { LeanTestsKept }
 {}

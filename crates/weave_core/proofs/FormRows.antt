@@ -1,5 +1,5 @@
 -- The forms of the code are a weave: they meet the laws of the rows and of the entry, so the promises follow from those of any weave.
-use Rattle.std.proofs.Common.{◌≡◌, ℕ, suc, ◌+◌, ◌*◌, ◌%◌, ◌^◌, ◌<◌, ◌≤◌, inl, inr, ⊎_elim, Bool, true, false, cond, List, [], ◌∷◌, ◌++◌, length, take, drop, refl, sym, ap, ◌∙◌, subst, arith, append_assoc, ◌-◌}
+use Rattle.std.proofs.Common.{◌≡◌, ℕ, zero, suc, ◌+◌, ◌*◌, ◌%◌, ◌^◌, ◌<◌, ◌≤◌, inl, inr, ⊎_elim, Bool, true, false, cond, List, [], ◌∷◌, ◌++◌, length, take, drop, refl, sym, ap, ◌∙◌, subst, arith, append_assoc, ◌-◌}
 use Rattle.std.specs.Prelude.{pos, slice_set}
 use Rattle.std.proofs.lemmas.Bool.{false≢true, and_parts, and_from, leb-true, ne_eqb, eq-eqb, eqb-true}
 use Rattle.std.proofs.lemmas.List.{append-nil, take-append-drop, length-take-le}
@@ -12,6 +12,7 @@ use Rattle.qed_model.specs.Weave.Pieces.{is_run}
 use Rattle.qed_model.specs.Weave.Blocks.{begins_at}
 use Rattle.qed_model.specs.Weave.Sequences.{Form, Reads, End, Falls, Stops, Block, original, each_part, guards, sweep, compare, visit, leave, leave_as, Ins, class_of, Class, ORIGINALS, CURSOR, SIGNATURE, TEMPORARY}
 use Rattle.machine.specs.Offsets.{distance_between, upper_part}
+use Rattle.machine.specs.Operands.{is_auipc}
 use Rattle.qed_model.specs.Weave.Bounds.{end_bound, visit_bound}
 use Rattle.machine.proofs.Lemmas.{known_at, run-more, constant_walk, set_reg-pos, run-none, Over}
 use Rattle.qed_model.proofs.Lemmas.{run_prefix}
@@ -124,10 +125,19 @@ lockstep_piece form checks m c is at h =
     subst (Lockstep (λ far. far ≡ form.far) []) (parts_are plus form.mirror checks is at (λ part. each_plus part is at)) (record { locks = λ far e. all.locks far (tt, (e, e)); lands = λ far e. all.lands far (tt, (e, e)) })
 
 -- ---- inside a run
--- behind the first n instructions of a run the original half has made n steps, whatever stands behind the original parts
+-- the original parts of the first of some instructions have fewer steps than all of them
+fewer_front : (is : List Ins) (n : ℕ) → n < length is → cost_each original_cost (take n is) < cost_each original_cost is
+fewer_front [] n l = absurd (omega (arith, l))
+fewer_front (i ∷ is) zero l = let h = one (is_auipc i.kind) in omega (arith, h) where
+  one : (b : Bool) → 1 ≤ cond {A = ℕ} b 2 1
+  one true = omega arith
+  one false = omega arith
+fewer_front (i ∷ is) (suc n) l = let h = fewer_front is n (omega (arith, l)) in omega (arith, h)
+
+-- behind the first n instructions of a run the original half has made n steps, in fewer than all original parts have, whatever stands behind them
 pub front_row :
     (w : World) (is : List Ins) (n : ℕ) (u s : State) (tail : List Item) → n < length is → AllFit is → is_run is ≡ true → HasAt w.source s.pc is
-    → At w u (each_part original is s.pc ++ tail) s s → Sourced w s → NotTrapped (run s n) → GoesTo w u n (3 * n) (λ k x. Inside w u s n k x)
+    → At w u (each_part original is s.pc ++ tail) s s → Sourced w s → NotTrapped (run s n) → GoesTo w u n (3 * n) (λ k x. Inside w u s n k x × (k < cost_each original_cost is))
 front_row w is n u s tail l fit clean has a so calm =
     let xs = take n is in
     let ys = drop n is in
@@ -149,13 +159,14 @@ front_row w is n u s tail l fit clean has a so calm =
     let met : Met w u s = met_going w u s (holds_of w u s s a.halved) a.over.going so.over.going in
     let trail = originals_trail plus (λ a h. refl) w xs s.pc v g.to g.steps e.1 met goes in
     let three = cost_parts 3 (λ i. 0) (omega arith) (λ i. omega arith) xs in
+    let fewer = fewer_front is n l in
     record {
       steps = g.steps;
       to = g.to.now;
       at_least = omega (arith, m.slow, count);
       within = omega (arith, g.within, three, count);
       walk = g.walk;
-      is = record { going = e.0.over.going; trail = subst (λ k. Trail w u s k g.steps) count trail };
+      is = (record { going = e.0.over.going; trail = subst (λ k. Trail w u s k g.steps) count trail }, omega (arith, g.within, fewer));
     })
     (λ e. absurd (never_originals plus xs s.pc w v g.to g.steps e))
     g.ends
@@ -205,7 +216,7 @@ module _ (w : World) (most : ℕ) (checks : List Item) (first steps : ℕ) (laws
         let few : 3 * suc n ≤ w.form.cost * most = mul-le-mul law.enough (let h = leb-true (length is) most both.1 in omega (arith, h, l)) in
         let shape = append_assoc (each_part original is s.pc) (each_part w.form.mirror is s.pc ++ checks) rest in
         let g = front_row w is n u s ((each_part w.form.mirror is s.pc ++ checks) ++ rest) l p.fit both.0 p.has (subst (λ k. At w u k s s) shape a) so calm in
-        record { steps = g.steps; to = g.to; at_least = g.at_least; within = omega (arith, g.within, few); walk = g.walk; is = (g.is, omega (arith, g.within, few)) }
+        record { steps = g.steps; to = g.to; at_least = g.at_least; within = omega (arith, g.within, few); walk = g.walk; is = (g.is.0, omega (arith, g.within, few)) }
 
     piece_law :
         (is : List Ins) (b : ℕ) (u s : State) (rest : List Item) → v.held w u b ≡ true → PieceAt w v s.pc is → At w u (v.code.piece is s.pc ++ rest) s s

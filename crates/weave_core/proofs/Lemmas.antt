@@ -47,4 +47,4 @@ pub use Rattle.weave_core.proofs.PartLaws.{lockstep_mirror, lockstep_original, q
 pub use Rattle.weave_core.proofs.PieceLaws.{both_checks, cost_parts, for_mirrors, for_originals, gives_mirrors, gives_originals, guarded_original, needs_mirrors, needs_originals, originals_trail, never_mirrors, never_originals, parts_are, piece_leads, used_low}
 pub use Rattle.weave_core.proofs.LeaveLaws.{quiet_enter, quiet_leave, quiet_sweep}
 pub use Rattle.weave_core.proofs.FormRows.{NeedsOther, both, both_steps, checks_after, each_plus, form_checks, form_guarded, form_rows, form_starts, front_row, goes_is, held_is, held_parts, kept_with, lockstep_piece, other_cost, plus, quiet_front, quiet_other, rows_with, starts_with}
-pub use Rattle.weave_core.proofs.Landings.{Standing, standing_at, standing_run, standing_step, weave_landed}
+pub use Rattle.weave_core.proofs.Landings.{Standing, landed, standing_at, standing_run, standing_step, weave_landed}

@@ -1,7 +1,7 @@
 -- The trace of the lean form: its boundaries are the calls of the check.
-use Rattle.std.proofs.Common.{◌≡◌, ℕ, suc, ◌+◌, ◌<◌, ◌≤◌, ◌⊎◌, inl, inr, ⊎_elim, Bool, true, List, sym, ap, ◌∙◌, subst, arith, cond}
+use Rattle.std.proofs.Common.{◌≡◌, ℕ, suc, ◌+◌, ◌<◌, ◌≤◌, ◌⊎◌, inl, inr, ⊎_elim, Bool, true, List, refl, sym, ap, ◌∙◌, subst, arith, cond}
 use Rattle.tests.specs.Admission.DataRanges.{word_count, word_address}
-use Rattle.qed_model.specs.Promise.Kept.{after_input, after_output, IsSteady, Steady}
+use Rattle.qed_model.specs.Promise.Kept.{after_input, after_output, Steady}
 use Rattle.qed_model.specs.Weave.LeanBounds.{entry_steps, call_steps}
 use Rattle.qed_model.specs.Weave.Sequences.{Reads}
 use Rattle.qed_model.specs.Weave.Lean.{first_word, begin}
@@ -14,8 +14,8 @@ use Rattle.weave_core.specs.Rows.{Sourced}
 use Rattle.weave_core.specs.Kinds.{originals}
 use Rattle.weave_core.specs.Lock.{ComparesFrom}
 use Rattle.weave_core.specs.Leaving.{sweep_cost}
-use Rattle.weave_core.specs.WeaveLaws.{EntriesAt, Swept}
-use Rattle.weave_core.proofs.Lemmas.{first_sourced, steady_le, steady_rest, words_within}
+use Rattle.weave_core.specs.WeaveLaws.{EntriesAt, Swept, Trail, Feeds}
+use Rattle.weave_core.proofs.Lemmas.{first_sourced, words_within, trail_first, trail_on, feeds_first, feeds_less, feeds_on}
 use Rattle.lockstep.proofs.Lemmas.{AtNumber, placed, round_of, round_on, Sizes, NextSteps, PieceSteps, EndsSoon, Trace, SweptEnd, ToEnd, LastBoundary, to_end, Numbered, next_numbered, visits_in, swept_is}
 use Rattle.lean.specs.Woven.{weave_of, LeanIn, check_steps, swept_steps, owed}
 use Rattle.lean.proofs.Weave.Begin.{begin_law, first_is}
@@ -42,7 +42,7 @@ module _ (f g : Program) (w : World) (l : Lean) (leader : ℕ → Bool) (x : Lea
     -- the check is called, with the number of the next word
     pub record Bound (p i : ℕ) : Type 0 where
       pub moves : ℕ
-      pub slow : moves ≤ p
+      pub trail : Trail w (start g regs) (start f zeros) moves p
       pub offset : ℕ
       pub here : AtCheck w l leader x (after_output g regs p) (after_input f moves) offset
       pub sourced : Sourced w (after_input f moves)
@@ -75,7 +75,7 @@ module _ (f g : Program) (w : World) (l : Lean) (leader : ℕ → Bool) (x : Lea
             visits = λ j h. visits_in g w regs p back.steps (back.steps + c.steps) w.form.round i j (first_word w.base w.form.spans + b.offset) (omega arith) (λ k l. ap (λ s. s.outcome) (there k) ∙ (back.walk.each k l).going) back.visits b.at h;
             next = record {
               moves = b.moves + c.moves;
-              slow = omega (arith, b.slow, c.slow);
+              trail = trail_on w (start g regs) (start f zeros) u s b.moves p refl refl b.trail c.moves (back.steps + c.steps) (b.moves + c.moves) refl (trail_first w u back.to s back.steps back.walk.ends c.moves c.steps c.trail);
               offset = back.next;
               here = subst (λ y. AtCheck w l leader x y (after_input f (b.moves + c.moves)) back.next) (sym (there (back.steps + c.steps) ∙ to)) (subst (λ t. AtCheck w l leader x c.to t back.next) (sym (run-more (start f zeros) b.moves c.moves)) c.is);
               sourced = subst (Sourced w) (sym (run-more (start f zeros) b.moves c.moves)) c.sourced;
@@ -90,9 +90,11 @@ module _ (f g : Program) (w : World) (l : Lean) (leader : ℕ → Bool) (x : Lea
           record { at = back.steps + e.steps; room = omega (arith, back.within, e.within, entry_some l.land); ended = ap (λ s. s.outcome) (there (back.steps + e.steps) ∙ to) ∙ e.ended }
 
       -- to the one or the other, where the input is steady
-      onward_at : (h : ℕ) → p + (l.every + 3) ≤ h → Steady f w.reached h → Called w l leader x blocks back.to s back.next (l.every + (entry_steps l.land + call_steps l.land)) ⊎ Finished w l leader x blocks back.to l.every
-      onward_at h le steady =
-          let c : IsSteady w.reached (after_input f b.moves) (l.every + 3) = steady_rest w.reached (start f zeros) b.moves (l.every + 3) (steady_le w.reached (start f zeros) (b.moves + (l.every + 3)) h (omega (arith, b.slow, le)) steady) in
+      onward_at : (h : ℕ) → p + (check_steps w + (l.every + 1)) ≤ h → Feeds w (start g regs) (start f zeros) h → Called w l leader x blocks back.to s back.next (l.every + (entry_steps l.land + call_steps l.land)) ⊎ Finished w l leader x blocks back.to l.every
+      onward_at h le feeds =
+          let room = check_steps w + (l.every + 1) in
+          let here : Feeds w u s room = feeds_on w (start g regs) (start f zeros) u s b.moves p room refl refl b.trail (feeds_less w (start g regs) (start f zeros) (p + room) h le feeds) in
+          let c : Feeds w back.to s (l.every + 1) = feeds_first w u s back.to back.steps (l.every + 1) back.walk.ends (feeds_less w u s (back.steps + (l.every + 1)) room (omega (arith, back.within)) here) in
           subst (λ n. Called w l leader x blocks back.to s back.next (n + (entry_steps l.land + call_steps l.land)) ⊎ Finished w l leader x blocks back.to n) none (to_check w l leader x blocks entries counts (suc (ahead w l leader x blocks entries counts s l.every)) back.to s l.every back.next (omega arith) (record {
             stands = back.stands;
             sourced = b.sourced;
@@ -101,21 +103,21 @@ module _ (f g : Program) (w : World) (l : Lean) (leader : ℕ → Bool) (x : Lea
             few = back.few;
             sign = back.sign;
             cursor = subst (IsCursor w.form.spans) (sym back.word) (words_within w.form.spans w.base w.form.round (first_word w.base w.form.spans + b.offset) w.spans_good b.here.cursor);
-          }) (subst (λ n. IsSteady w.reached s (n + 3)) (sym none) c)) where
+          }) (subst (λ n. Feeds w back.to s (n + 1)) (sym none) c)) where
             none : l.every + owed l s.pc ≡ l.every
             none = ap (λ t. l.every + cond {A = ℕ} t 0 (l.most s.pc)) b.here.ticked ∙ zero_behind l.every where
               zero_behind : (n : ℕ) → n + 0 ≡ n
               zero_behind n = omega arith
 
       -- with one comparison
-      piece_at : (h : ℕ) → Steady f w.reached h → PieceSteps w.code (start g regs) sizes (λ i. word_address w.form.spans i) h Bound p i
-      piece_at h steady =
+      piece_at : (h : ℕ) → Feeds w (start g regs) (start f zeros) h → PieceSteps w.code (start g regs) sizes (λ i. word_address w.form.spans i) h Bound p i
+      piece_at h feeds =
           let e = run-more (start g regs) p 3 in
           record {
             compare = 3;
             room = omega arith;
             at = record { going = ap (λ s. s.outcome) e ∙ (back.walk.each 3 (omega (arith, back.some))).going; words = subst (λ s. ComparesFrom w.code s.pc originals) (sym e) back.compares };
-            on = λ le. ⊎_elim (λ d. inl (next_at d)) (λ d. inr (ends_at d)) (onward_at h (omega (arith, le)) steady);
+            on = λ le. ⊎_elim (λ d. inl (next_at d)) (λ d. inr (ends_at d)) (onward_at h (omega (arith, le, entry_some l.land)) feeds);
           }
 
       -- the end, with its sweep
@@ -164,7 +166,7 @@ module _ (f g : Program) (w : World) (l : Lean) (leader : ℕ → Bool) (x : Lea
           index = n.index;
           bound = record {
             moves = c.moves;
-            slow = omega (arith, c.slow);
+            trail = trail_first w (start g regs) y.to s0 y.steps y.walk.ends c.moves c.steps c.trail;
             offset = 0;
             here = subst (λ z. AtCheck w l leader x z (after_input f c.moves) 0) (sym walk.ends) c.is;
             sourced = c.sourced;
@@ -174,9 +176,9 @@ module _ (f g : Program) (w : World) (l : Lean) (leader : ℕ → Bool) (x : Lea
           fewer : (m n : ℕ) → m < n → n ≤ 2047 → m ≤ 2047
           fewer m n h k = omega (arith, h, k)
 
-    -- the trace up to a number of steps in which the input is steady
-    pub traced : (h : ℕ) → Steady f w.reached h → Trace w.code (start g regs) sizes (λ i. word_address w.form.spans i) (31 + (entry_steps l.land + call_steps l.land)) h Bound
-    traced h steady =
+    -- the trace up to a number of steps of the output in which the input is steady
+    pub traced : (h : ℕ) → Feeds w (start g regs) (start f zeros) h → Trace w.code (start g regs) sizes (λ i. word_address w.form.spans i) (31 + (entry_steps l.land + call_steps l.land)) h Bound
+    traced h feeds =
         let first = first_call in
         record {
           first = first.steps;
@@ -184,7 +186,7 @@ module _ (f g : Program) (w : World) (l : Lean) (leader : ℕ → Bool) (x : Lea
           cursor = first.index;
           start = first.bound;
           inside = λ p i b. ⊎_elim (λ y. inl y.0) (λ z. inr z) b.at;
-          goes_on = λ p i b le. inl (piece_at p i b h steady);
+          goes_on = λ p i b le. inl (piece_at p i b h feeds);
         }
 
     -- ---- the end of a test with the sweep
@@ -201,7 +203,7 @@ module _ (f g : Program) (w : World) (l : Lean) (leader : ℕ → Bool) (x : Lea
           ⊎_elim
           (λ c. inl (next_numbered w.code (start g regs) sizes nth Bound p b.index (next_at p b.index b.bound c)))
           (λ d. inr (closing_at p b.index b.bound d))
-          (onward_at p b.index b.bound (p + (l.every + 3)) (omega arith) (steady (p + (l.every + 3)))))
+          (onward_at p b.index b.bound (p + (check_steps w + (l.every + 1))) (omega arith) (record { more = λ n m t l. steady (suc n) })))
           e first.steps (omega arith) (record { index = first.index; bound = first.bound })
 
       swept : LastBoundary (λ q n. Sweeps w (after_output g regs q) n) e → SweptEnd w g regs (sweep_cost w.form.spans) e

@@ -12,15 +12,17 @@ use Rattle.weave_core.specs.World.{World, Quiet, Twice, Item, Plain, Ended, Stat
 use Rattle.weave_core.specs.Kinds.{originals}
 use Rattle.weave_core.specs.Rows.{At, Sourced}
 use Rattle.weave_core.specs.Leaving.{swept_end, sweep_cost}
-use Rattle.weave_core.specs.WeaveLaws.{Holds, GoesTo, Ends, Swept}
-use Rattle.weave_core.proofs.Lemmas.{own_pair, guards_pass, quiet_sweep, step-end, end_walk, writes, halved_writes, none_run, all_small}
+use Rattle.weave_core.specs.WeaveLaws.{GoesTo, Ends, Swept}
+use Rattle.weave_core.proofs.Lemmas.{own_pair, guards_pass, quiet_sweep, step-end, end_walk, writes, halved_input, halved_writes, none_run, all_small}
 use Rattle.lean.specs.Woven.{swept_steps}
 use Rattle.lean.proofs.Weave.Chain.{read_back, all_temps, no_break}
 use Rattle.lean.proofs.Weave.Sign.{distance_set, passes}
 
--- states that ended have the values
-ended_holds : (w : World) (u s : State) → Twice w u s s → Holds w (stopped Ended u) (stopped Ended s)
-ended_holds w u s t = record { output = record { flags = t.output.flags; regs = t.output.regs; zero_reg = t.output.zero_reg }; originals = t.originals; bytes = t.bytes }
+-- states that ended have the values in both halves
+ended_halved : (w : World) (u s : State) → Twice w u s s → Twice w (stopped Ended u) (stopped Ended s) (stopped Ended s)
+ended_halved w u s t =
+    let i = halved_input w Ended u s t in
+    record { output = record { flags = t.output.flags; regs = t.output.regs; zero_reg = t.output.zero_reg }; input = i.input; shadow = i.shadow; originals = i.originals; pairs = i.pairs; distance = i.distance; bytes = i.bytes; mirror_bytes = i.mirror_bytes; fixed = i.fixed; spare = i.spare }
 
 -- ---- the sweep
 -- with some steps before it the end with the sweep is what is left of n steps
@@ -60,14 +62,14 @@ end_rest w u s i at so h c = by w.form.sweep refl at where
       ⊎_elim
       (λ f. absurd f.1)
       (λ l.
-      let has : Holds w x.to.now (stopped Ended s) = record { output = l.holds.output; originals = l.holds.originals; bytes = l.holds.bytes } in
+      let has : Twice w x.to.now (stopped Ended s) (stopped Ended s) = halved_input w Ended x.to.now s l.halved in
       record {
         steps = x.steps;
         to = x.to.now;
         at_least = omega (arith, l.swept.exact);
         within = omega (arith, high);
         walk = x.walk;
-        is = (record { ended = l.ended; holds = subst (Holds w x.to.now) (sym e) has; input = input }, λ sw. record { from = 0; rest = x.steps; sum = omega arith; swept = subst (λ z. Swept w (sweep_cost w.form.spans) z x.steps) (sym (none_run u)) l.swept });
+        is = (record { ended = l.ended; halved = subst (λ y. Twice w x.to.now y y) (sym e) has; input = input }, λ sw. record { from = 0; rest = x.steps; sum = omega arith; swept = subst (λ z. Swept w (sweep_cost w.form.spans) z x.steps) (sym (none_run u)) l.swept });
       })
       x.ends
   by false is a = record {
@@ -76,7 +78,7 @@ end_rest w u s i at so h c = by w.form.sweep refl at where
     at_least = omega arith;
     within = omega arith;
     walk = end_walk w u i a.over a.reads.0 c;
-    is = (record { ended = refl; holds = subst (Holds w (stopped Ended u)) (sym e) (ended_holds w u s a.halved); input = input }, λ sw. absurd (false≢true (sym is ∙ sw)));
+    is = (record { ended = refl; halved = subst (λ y. Twice w (stopped Ended u) y y) (sym e) (ended_halved w u s a.halved); input = input }, λ sw. absurd (false≢true (sym is ∙ sw)));
   }
 
 module _ (w : World) (u s : State) (i : Ins) (fall : ℕ → List Item) (a : ℕ) (at : At w u (leave_as w.distance (before_end w.form) fall class.End i a s.pc) s s) (so : Sourced w s) (low : a < 2 ^ 64) (small : w.distance < 2 ^ 64) (sign : reg u SIGNATURE ≡ a) where

@@ -1,5 +1,6 @@
 -- A piece: runs of instructions that do not store, of each its original parts and then its mirror parts, and stores in both halves between them.
 use Rattle.std.proofs.Common.{◌≡◌, ℕ, ◌+◌, ◌-◌, ◌*◌, ◌<◌, ◌≤◌, ⊎_elim, Bool, true, false, cond, List, [], ◌∷◌, ◌++◌, length, refl, sym, ap, ◌∙◌, subst, arith, append_assoc, length-append}
+use Rattle.std.specs.Prelude.{◌==◌, ◌||◌}
 use Rattle.std.proofs.lemmas.Bool.{and_parts, cases_lt, false≢true}
 use Rattle.std.proofs.lemmas.List.{append-nil}
 use Rattle.std.proofs.Math.Nat.{mul-add}
@@ -13,13 +14,13 @@ use Rattle.qed_model.specs.Weave.LeanCode.{mirror_steps_of, is_store, store_step
 use Rattle.qed_model.specs.Weave.Forms.{mirror_of}
 use Rattle.qed_model.proofs.Lemmas.{run_alone, run_prefix}
 use Rattle.machine.proofs.Lemmas.{Walk, walk_none, walk_on, run-more}
-use Rattle.weave_core.specs.World.{World, Quiet as Calm, Item, State, Known, reg, run, step, HasAt, Ins}
+use Rattle.weave_core.specs.World.{World, Quiet as Calm, Item, Going, State, Known, reg, run, step, HasAt, Ins}
 use Rattle.weave_core.specs.Blocks.{FitsPiece, AllFit}
 use Rattle.weave_core.specs.Rows.{At, Sourced, Led}
-use Rattle.weave_core.specs.WeaveLaws.{GoesTo, Holds, Inside}
+use Rattle.weave_core.specs.WeaveLaws.{GoesTo, Met, Trail, Inside}
 use Rattle.weave_core.specs.Parts.{any, bare, NeedsMirror, GivesMirror, LeavesMirror}
 use Rattle.weave_core.specs.Pass.{Views, Quiet, same}
-use Rattle.weave_core.proofs.Lemmas.{mirrored_part, diverse_row, led_on, leads_led, quiet_each, each_same, plus, each_plus, quiet_front, front_row, never_originals, never_mirrors, for_mirrors, needs_originals, gives_originals, needs_mirrors, gives_mirrors, guarded_original, has_front, has_rest, not_trapped_le, source_run, none_run, one_run, store_row}
+use Rattle.weave_core.proofs.Lemmas.{mirrored_part, diverse_row, leads_led, quiet_each, each_same, plus, each_plus, quiet_front, front_row, never_originals, never_mirrors, for_mirrors, needs_originals, gives_originals, needs_mirrors, gives_mirrors, guarded_original, has_front, has_rest, not_trapped_le, source_run, one_run, store_row, holds_of, met_going, met_same, originals_trail, trail_later, trail_none, trail_on, trail_one}
 use Rattle.lean.proofs.Weave.Costs.{run_most, both_most}
 
 -- a mirror part of either kind
@@ -40,8 +41,22 @@ quiet_mirror diverse i at f = record {
 abbrev pub run_steps : Bool → List Ins → ℕ
 run_steps diverse is = cost_each original_cost is + cost_each (mirror_steps_of diverse) is
 
+-- ---- rows with their trails
+-- items lead through n steps of the input, and on the way the output comes to each of its states
+pub record Row (w : World) (u s : State) (n most : ℕ) (rest : List Item) : Type 0 where
+  pub led : Led w u n most rest (run s n) (run s n)
+  pub trail : Trail w u s n led.steps
+
+-- both halves are those of s
+pub met_at : (w : World) (u s : State) (rest : List Item) → At w u rest s s → s.outcome ≡ Going → Met w u s
+met_at w u s rest a going = met_going w u s (holds_of w u s s a.halved) a.over.going going
+
 -- ---- a run
 module _ (diverse : Bool) (w : World) (is : List Ins) (s : State) (fit : AllFit is) (clean : is_run is ≡ true) (has : HasAt w.source s.pc is) (so : Sourced w s) (calm : NotTrapped (run s (length is))) where
+  -- the input goes on in it
+  goes : (k : ℕ) → k ≤ length is → (run s k).outcome ≡ Going
+  goes k h = (source_run w is k s h fit so has (not_trapped_le s k (length is) h calm)).sourced.over.going
+
   -- behind the original parts
   record Half (u : State) (rest : List Item) : Type 0 where
     steps : ℕ
@@ -54,6 +69,7 @@ module _ (diverse : Bool) (w : World) (is : List Ins) (s : State) (fit : AllFit 
     shadow : to.shadow ≡ s
     counter : reg to.now CURSOR ≡ reg u CURSOR
     sign : reg to.now SIGNATURE ≡ reg u SIGNATURE
+    trail : Trail w u s (length is) steps
 
   originals_row : (u : State) (rest : List Item) → At w u (each_part original is s.pc ++ rest) s s → Half u rest
   originals_row u rest a =
@@ -64,11 +80,12 @@ module _ (diverse : Bool) (w : World) (is : List Ins) (s : State) (fit : AllFit 
       ⊎_elim
       (λ e.
       let m = gives_originals plus (λ a h. refl) w is s.pc v g.to g.steps e.1 in
-      record { steps = g.steps; to = g.to; slow = m.slow; within = g.within; walk = g.walk; at = e.0; original = m.original; shadow = m.shadow; counter = m.cursor; sign = m.sign })
+      let trail = originals_trail plus (λ a h. refl) w is s.pc v g.to g.steps e.1 (met_at w u s (each_part original is s.pc ++ rest) a so.over.going) goes in
+      record { steps = g.steps; to = g.to; slow = m.slow; within = g.within; walk = g.walk; at = e.0; original = m.original; shadow = m.shadow; counter = m.cursor; sign = m.sign; trail = trail })
       (λ e. absurd (never_originals plus is s.pc w v g.to g.steps e))
       g.ends
 
-  mirrors_row : (u : State) (rest : List Item) → Half u (each_part (mirror_of diverse) is s.pc ++ rest) → Led w u (length is) (run_steps diverse is) rest (run s (length is)) (run s (length is))
+  mirrors_row : (u : State) (rest : List Item) → Half u (each_part (mirror_of diverse) is s.pc ++ rest) → Row w u s (length is) (run_steps diverse is) rest
   mirrors_row u rest h =
       let v = h.to in
       let st = subst (λ l. At w v.now (l ++ rest) v.original v.shadow) (sym (each_plus (mirror_of diverse) is s.pc)) h.at in
@@ -80,21 +97,18 @@ module _ (diverse : Bool) (w : World) (is : List Ins) (s : State) (fit : AllFit 
       let m = gives_mirrors plus (λ a h. refl) w (mirror_steps_of diverse) is s.pc v g.to g.steps e.1 in
       let same_original : g.to.original ≡ run s (length is) = m.original ∙ h.original in
       let same_shadow : g.to.shadow ≡ run s (length is) = m.shadow ∙ ap (λ x. run x (length is)) h.shadow in
+      let n = length is in
+      let walk : Walk (Calm w) u (h.steps + g.steps) g.to.now = walk_on (Calm w) u v.now g.to.now h.steps g.steps h.walk g.walk in
+      let at : At w g.to.now rest (run s n) (run s n) = subst (λ y. At w g.to.now rest (run s n) y) same_shadow (subst (λ y. At w g.to.now rest y g.to.shadow) same_original e.0) in
       record {
-        steps = h.steps + g.steps;
-        to = g.to.now;
-        at_least = omega (arith, h.slow);
-        within = omega (arith, h.within, g.within);
-        walk = walk_on (Calm w) u v.now g.to.now h.steps g.steps h.walk g.walk;
-        at = subst (λ y. At w g.to.now rest (run s (length is)) y) same_shadow (subst (λ y. At w g.to.now rest y g.to.shadow) same_original e.0);
-        cursor = m.cursor ∙ h.counter;
-        sign = m.sign ∙ h.sign;
+        led = record { steps = h.steps + g.steps; to = g.to.now; at_least = omega (arith, h.slow); within = omega (arith, h.within, g.within); walk = walk; at = at; cursor = m.cursor ∙ h.counter; sign = m.sign ∙ h.sign };
+        trail = trail_later w u s n h.steps (h.steps + g.steps) (omega arith) (met_same w (run u (h.steps + g.steps)) g.to.now (run s n) (run s n) walk.ends refl (met_at w g.to.now (run s n) rest at (goes n (omega arith)))) h.trail;
       })
       (λ e. absurd (never_mirrors plus (mirror_steps_of diverse) is s.pc w v g.to g.steps e))
       g.ends
 
   -- through all of it
-  run_row : (u : State) (rest : List Item) → At w u (both_parts diverse is s.pc ++ rest) s s → Led w u (length is) (run_steps diverse is) rest (run s (length is)) (run s (length is))
+  run_row : (u : State) (rest : List Item) → At w u (both_parts diverse is s.pc ++ rest) s s → Row w u s (length is) (run_steps diverse is) rest
   run_row u rest a =
       let b = subst (λ l. At w u l s s) (append_assoc (each_part original is s.pc) (each_part (mirror_of diverse) is s.pc) rest) a in
       mirrors_row u rest (originals_row u (each_part (mirror_of diverse) is s.pc ++ rest) b)
@@ -150,11 +164,11 @@ store_class class.Store e = refl
 store_class c e = absurd (false≢true e)
 
 -- ---- parts
--- items lead through instructions, in at most `most` steps; within them the original half makes each step
+-- items lead through instructions, in at most `most` steps; within them, in fewer, the original half makes each step
 pub record Part (diverse : Bool) (w : World) (items : ℕ → List Item) (is : List Ins) (most : ℕ) : Type 0 where
   pub few : most ≤ cost_of diverse * length is
-  pub row : (u s : State) (rest : List Item) → Ready w s is (length is) → At w u (items s.pc ++ rest) s s → Led w u (length is) most rest (run s (length is)) (run s (length is))
-  pub inside : (n : ℕ) (u s : State) (rest : List Item) → n < length is → Ready w s is n → At w u (items s.pc ++ rest) s s → GoesTo w u n (cost_of diverse * length is) (λ k x. Inside w s n x)
+  pub row : (u s : State) (rest : List Item) → Ready w s is (length is) → At w u (items s.pc ++ rest) s s → Row w u s (length is) most rest
+  pub inside : (n : ℕ) (u s : State) (rest : List Item) → n < length is → Ready w s is n → At w u (items s.pc ++ rest) s s → GoesTo w u n most (λ k x. Inside w u s n k x × (k < most))
 
 module _ (diverse : Bool) (w : World) where
   -- one behind the other
@@ -167,56 +181,64 @@ module _ (diverse : Bool) (w : World) where
     product = ap (λ n. cost_of diverse * n) count ∙ mul-add (cost_of diverse) (length is) (length js)
 
     -- the first of them, before the second
-    first : (u s : State) (rest : List Item) → Ready w s is (length is) → At w u ((xs s.pc ++ ys (s.pc + 4 * length is)) ++ rest) s s → Led w u (length is) c (ys (s.pc + 4 * length is) ++ rest) (run s (length is)) (run s (length is))
+    first : (u s : State) (rest : List Item) → Ready w s is (length is) → At w u ((xs s.pc ++ ys (s.pc + 4 * length is)) ++ rest) s s → Row w u s (length is) c (ys (s.pc + 4 * length is) ++ rest)
     first u s rest r a = p.row u s (ys (s.pc + 4 * length is) ++ rest) r (subst (λ l. At w u l s s) (append_assoc (xs s.pc) (ys (s.pc + 4 * length is)) rest) a)
 
-    row : (u s : State) (rest : List Item) → Ready w s (is ++ js) (length (is ++ js)) → At w u ((xs s.pc ++ ys (s.pc + 4 * length is)) ++ rest) s s → Led w u (length (is ++ js)) (c + d) rest (run s (length (is ++ js))) (run s (length (is ++ js)))
+    row : (u s : State) (rest : List Item) → Ready w s (is ++ js) (length (is ++ js)) → At w u ((xs s.pc ++ ys (s.pc + 4 * length is)) ++ rest) s s → Row w u s (length (is ++ js)) (c + d) rest
     row u s rest r a =
         let m = length js in
         let t = run s (length is) in
         let b = ready_rest w s is js m (subst (Ready w s (is ++ js)) count r) in
         let f = first u s rest (ready_front w s is js (length (is ++ js)) (length is) (omega (arith, count)) r) a in
-        let l = led_on w u (length is) c m d (ys (s.pc + 4 * length is) ++ rest) rest t t (run t m) (run t m) f (λ x h. q.row x t rest b.ready (subst (λ n. At w x (ys n ++ rest) t t) (sym b.pc) h)) in
+        let x = f.led.to in
+        let g = q.row x t rest b.ready (subst (λ n. At w x (ys n ++ rest) t t) (sym b.pc) f.led.at) in
         let same : run t m ≡ run s (length (is ++ js)) = sym (run-more s (length is) m) ∙ ap (run s) (sym count) in
-        subst (λ n. Led w u n (c + d) rest (run s (length (is ++ js))) (run s (length (is ++ js)))) (sym count) (subst (λ y. Led w u (length is + m) (c + d) rest y y) same l)
+        record {
+          led = record {
+            steps = f.led.steps + g.led.steps;
+            to = g.led.to;
+            at_least = omega (arith, f.led.at_least, g.led.at_least, count);
+            within = omega (arith, f.led.within, g.led.within);
+            walk = walk_on (Calm w) u x g.led.to f.led.steps g.led.steps f.led.walk g.led.walk;
+            at = subst (λ y. At w g.led.to rest y y) same g.led.at;
+            cursor = g.led.cursor ∙ f.led.cursor;
+            sign = g.led.sign ∙ f.led.sign;
+          };
+          trail = trail_on w u s x t (length is) f.led.steps f.led.walk.ends refl f.trail m g.led.steps (length (is ++ js)) count g.trail;
+        }
 
-    inside : (n : ℕ) (u s : State) (rest : List Item) → n < length (is ++ js) → Ready w s (is ++ js) n → At w u ((xs s.pc ++ ys (s.pc + 4 * length is)) ++ rest) s s → GoesTo w u n (cost_of diverse * length (is ++ js)) (λ k x. Inside w s n x)
+    inside : (n : ℕ) (u s : State) (rest : List Item) → n < length (is ++ js) → Ready w s (is ++ js) n → At w u ((xs s.pc ++ ys (s.pc + 4 * length is)) ++ rest) s s → GoesTo w u n (c + d) (λ k x. Inside w u s n k x × (k < c + d))
     inside n u s rest lt r a =
         ⊎_elim
         (λ l.
         let g = p.inside n u s (ys (s.pc + 4 * length is) ++ rest) l (ready_front w s is js n n (omega arith) r) (subst (λ l. At w u l s s) (append_assoc (xs s.pc) (ys (s.pc + 4 * length is)) rest) a) in
-        record { steps = g.steps; to = g.to; at_least = g.at_least; within = omega (arith, g.within, product); walk = g.walk; is = g.is })
+        record { steps = g.steps; to = g.to; at_least = g.at_least; within = omega (arith, g.within); walk = g.walk; is = (g.is.0, omega (arith, g.is.1)) })
         (λ ge. behind (n - length is) (omega (arith, ge)))
         (cases_lt n (length is)) where
-          behind : (m : ℕ) → n ≡ length is + m → GoesTo w u n (cost_of diverse * length (is ++ js)) (λ k x. Inside w s n x)
+          behind : (m : ℕ) → n ≡ length is + m → GoesTo w u n (c + d) (λ k x. Inside w u s n k x × (k < c + d))
           behind m z =
               let t = run s (length is) in
               let b = ready_rest w s is js m (subst (Ready w s (is ++ js)) z r) in
               let f = first u s rest (ready_front w s is js n (length is) (omega (arith, z)) r) a in
-              let g = q.inside m f.to t rest (omega (arith, z, lt, count)) b.ready (subst (λ n. At w f.to (ys n ++ rest) t t) (sym b.pc) f.at) in
-              let same : run t m ≡ run s n = sym (run-more s (length is) m) ∙ ap (run s) (sym z) in
+              let y = f.led.to in
+              let g = q.inside m y t rest (omega (arith, z, lt, count)) b.ready (subst (λ n. At w y (ys n ++ rest) t t) (sym b.pc) f.led.at) in
               record {
-                steps = f.steps + g.steps;
+                steps = f.led.steps + g.steps;
                 to = g.to;
-                at_least = omega (arith, f.at_least, g.at_least, z);
-                within = omega (arith, f.within, g.within, p.few, product);
-                walk = walk_on (Calm w) u f.to g.to f.steps g.steps f.walk g.walk;
-                is = record { going = g.is.going; holds = subst (λ y. Holds w g.to y) same g.is.holds };
+                at_least = omega (arith, f.led.at_least, g.at_least, z);
+                within = omega (arith, f.led.within, g.within);
+                walk = walk_on (Calm w) u y g.to f.led.steps g.steps f.led.walk g.walk;
+                is = (record { going = g.is.0.going; trail = trail_on w u s y t (length is) f.led.steps f.led.walk.ends refl f.trail m g.steps n z g.is.0.trail }, omega (arith, f.led.within, g.is.1));
               }
 
   -- a run
   run_part : (is : List Ins) → Part diverse w (both_parts diverse is) is (run_steps diverse is)
   run_part is = record { few = run_most diverse is; row = λ u s rest r a. run_row diverse w is s r.fit r.clean r.has r.sourced r.calm u rest a; inside = inside } where
-    three : (b : Bool) (n m : ℕ) → n < m → 3 * n ≤ cost_of b * m
-    three true n m h = omega (arith, h)
-    three false n m h = omega (arith, h)
-
-    inside : (n : ℕ) (u s : State) (rest : List Item) → n < length is → Ready w s is n → At w u (both_parts diverse is s.pc ++ rest) s s → GoesTo w u n (cost_of diverse * length is) (λ k x. Inside w s n x)
+    inside : (n : ℕ) (u s : State) (rest : List Item) → n < length is → Ready w s is n → At w u (both_parts diverse is s.pc ++ rest) s s → GoesTo w u n (run_steps diverse is) (λ k x. Inside w u s n k x × (k < run_steps diverse is))
     inside n u s rest lt r a =
         let mirrors = each_part (mirror_of diverse) is s.pc in
         let g = front_row w is n u s (mirrors ++ rest) lt r.fit r.clean r.has (subst (λ l. At w u l s s) (append_assoc (each_part original is s.pc) mirrors rest) a) r.sourced r.calm in
-        let few = three diverse n (length is) lt in
-        record { steps = g.steps; to = g.to; at_least = g.at_least; within = omega (arith, g.within, few); walk = g.walk; is = g.is }
+        record { steps = g.steps; to = g.to; at_least = g.at_least; within = omega (arith, g.is.1); walk = g.walk; is = (g.is.0, omega (arith, g.is.1)) }
 
   -- a store
   store_part_of : (i : Ins) → is_store (class_of i.kind) ≡ true → Part diverse w (λ at. store_part i) (i ∷ []) (store_steps i)
@@ -224,15 +246,23 @@ module _ (diverse : Bool) (w : World) where
     few : store_steps i ≤ cost_of diverse * 1
     few = let h = subst (λ b. cond b (store_steps i) (original_cost i + mirror_steps_of diverse i) ≤ cost_of diverse) e (both_most diverse i) in omega (arith, h)
 
-    row : (u s : State) (rest : List Item) → Ready w s (i ∷ []) 1 → At w u (store_part i ++ rest) s s → Led w u 1 (store_steps i) rest (run s 1) (run s 1)
-    row u s rest r a = subst (λ y. Led w u 1 (store_steps i) rest y y) (sym (one_run s)) (store_row w u s i rest r.fit.0 (store_class (class_of i.kind) e) a r.sourced r.has.0 (subst NotTrapped (one_run s) r.calm))
+    some : 1 ≤ store_steps i
+    some = by ((i.rs2 == i.rs1) || (i.rs2 == 0)) where
+      by : (b : Bool) → 1 ≤ cond {A = ℕ} b 5 6
+      by true = omega arith
+      by false = omega arith
 
-    inside : (n : ℕ) (u s : State) (rest : List Item) → n < 1 → Ready w s (i ∷ []) n → At w u (store_part i ++ rest) s s → GoesTo w u n (cost_of diverse * 1) (λ k x. Inside w s n x)
+    row : (u s : State) (rest : List Item) → Ready w s (i ∷ []) 1 → At w u (store_part i ++ rest) s s → Row w u s 1 (store_steps i) rest
+    row u s rest r a =
+        let l : Led w u 1 (store_steps i) rest (run s 1) (run s 1) = subst (λ y. Led w u 1 (store_steps i) rest y y) (sym (one_run s)) (store_row w u s i rest r.fit.0 (store_class (class_of i.kind) e) a r.sourced r.has.0 (subst NotTrapped (one_run s) r.calm)) in
+        let going = (source_run w (i ∷ []) 1 s (omega arith) r.fit r.sourced r.has r.calm).sourced.over.going in
+        record { led = l; trail = trail_one w u s l.steps l.at_least (met_at w u s (store_part i ++ rest) a r.sourced.over.going) (met_same w (run u l.steps) l.to (run s 1) (run s 1) l.walk.ends refl (met_at w l.to (run s 1) rest l.at going)) }
+
+    inside : (n : ℕ) (u s : State) (rest : List Item) → n < 1 → Ready w s (i ∷ []) n → At w u (store_part i ++ rest) s s → GoesTo w u n (store_steps i) (λ k x. Inside w u s n k x × (k < store_steps i))
     inside n u s rest lt r a =
         let z : n ≡ 0 = omega (arith, lt) in
-        let same : s ≡ run s n = sym (ap (run s) z ∙ none_run s) in
-        let t = a.halved in
-        record { steps = 0; to = u; at_least = omega (arith, z); within = omega arith; walk = walk_none (Calm w) u; is = record { going = a.over.going; holds = subst (λ y. Holds w u y) same (record { output = t.output; originals = t.originals; bytes = t.bytes }) } }
+        let none = trail_none w u s (met_at w u s (store_part i ++ rest) a r.sourced.over.going) in
+        record { steps = 0; to = u; at_least = omega (arith, z); within = omega arith; walk = walk_none (Calm w) u; is = (record { going = a.over.going; trail = subst (λ k. Trail w u s k 0) (sym z) none }, omega (arith, some)) }
 
   -- ---- a piece
   -- with a run that is begun

@@ -3,9 +3,9 @@ use Rattle.std.proofs.Common.{◌≡◌, ℕ, zero, suc, ◌+◌, ◌*◌, ◌^�
 use Rattle.qed_model.specs.declared.bounds.Bounds.{Bounds}
 use Rattle.tests.specs.Admission.DataRanges.{word_count}
 use Rattle.machine.specs.Members.{Among}
-use Rattle.qed_model.specs.Promise.Caught.{Caught}
-use Rattle.qed_model.specs.Promise.Clean.{Clean}
+use Rattle.qed_model.specs.Promise.InStep.{CaughtInStep, CleanInStep}
 use Rattle.qed_model.specs.Promise.Kept.{Kept}
+use Rattle.qed_model.specs.Promise.OwnSteps.{KeptInStep}
 use Rattle.qed_model.specs.Weave.Blocks.{begins_at}
 use Rattle.qed_model.specs.Weave.Code.{Sequences, entries_of}
 use Rattle.qed_model.specs.Weave.Pieces.{piece_count}
@@ -19,11 +19,12 @@ use Rattle.weave_core.specs.KindItems.{LockItems, AllLand, OpenEntries, AllBlock
 use Rattle.weave_core.specs.Kinds.{opens}
 use Rattle.weave_core.specs.Lock.{Opens}
 use Rattle.weave_core.specs.Leaving.{sweep_cost}
+use Rattle.weave_core.specs.Weave.{stage_steps, start_steps}
 use Rattle.weave_core.specs.WeaveLaws.{EntriesAt}
-use Rattle.weave_core.proofs.Lemmas.{reads_front, instructions_then, reads_words, stub_opens, items_then, all_land_append, has_rest, opens_behind, length-instructions, WeaveIn, kept, quiet_at}
+use Rattle.weave_core.proofs.Lemmas.{reads_front, instructions_then, reads_words, stub_opens, items_then, all_land_append, has_rest, opens_behind, length-instructions, WeaveIn, kept, in_step, feeds_at, quiet_before}
 use Rattle.lockstep.proofs.Lemmas.{round_some, CalmCode, cleaned, faults_found, WordAt, stub_words, reads_rest, word_of, stub_open, Times, BoundsBy, CaughtAll, caught_of, settles_all, Sizes, all_blocks}
 use Rattle.lockstep.specs.InstructionFaults.{FaultsFound}
-use Rattle.lean.specs.Woven.{LeanPlan, LeanKept, LeanCaught, LeanClean, IsBoundsOf, weave_of, check_steps, swept_steps}
+use Rattle.lean.specs.Woven.{LeanPlan, LeanKept, LeanKeptInStep, LeanCaught, LeanClean, IsBoundsOf, weave_of, check_steps, swept_steps, start_of, piece_of}
 use Rattle.lean.proofs.Weave.Beats.{sizes, traced, Bound, swept_end}
 use Rattle.lean.proofs.Weave.Begin.{lean_starts}
 use Rattle.lean.proofs.Weave.Cells.{Counts}
@@ -166,13 +167,20 @@ module _ (f g : Program) (w : World) (l : Lean) (blocks : List Block) (p : LeanP
   pub woven : WeaveIn f g w (weave_of w l leader) leader
   woven = record { rows = lean_rows w l leader p.sound; starts = lean_starts f g w l leader p.sound; world = p.world; entries = entries; leads = p.begins; begins = begins }
 
-  calm : CalmCode f g w
+  -- the bounds on its steps
+  abbrev before : ℕ
+  before = start_steps (weave_of w l leader)
+
+  abbrev per : ℕ
+  per = stage_steps (weave_of w l leader)
+
+  calm : CalmCode f g w before per
   calm = record {
     world = p.world;
     words = words;
     entries = entries_open;
-    calm = λ regs are m steady. (kept f g w (weave_of w l leader) leader woven).quiet regs m are steady;
-    quiet = quiet_at f g w (weave_of w l leader) leader woven;
+    kept = in_step f g w (weave_of w l leader) leader woven (omega arith);
+    quiet = quiet_before f g w (weave_of w l leader) leader woven;
   }
 
   -- ---- changes are caught
@@ -195,18 +203,19 @@ module _ (f g : Program) (w : World) (l : Lean) (blocks : List Block) (p : LeanP
       sum : (s n : ℕ) → 53 + entry_steps l.land + call_steps l.land + s + n ≡ 31 + (entry_steps l.land + call_steps l.land) + (2 + s) + (n + 20)
       sum s n = omega arith
 
-    catches_all : CaughtAll f g w bounds
+    catches_all : CaughtAll f g w before per bounds
     catches_all = record {
-      settles = λ regs cs b start ordered free bound steady.
-          settles_all f g w calm regs start z w.form.round (31 + (entry_steps l.land + call_steps l.land)) (Bound f g w l leader p.sound p.world entries counts p.begins p.ticked begins regs start) times (traced f g w l leader p.sound p.world entries counts p.begins p.ticked begins regs start) bounds by cs b ordered free bound steady;
+      settles = λ regs cs b start ordered free bound covers going.
+          settles_all f g w before per calm regs start z w.form.round (31 + (entry_steps l.land + call_steps l.land)) (Bound f g w l leader p.sound p.world entries counts p.begins p.ticked begins regs start) times
+          (λ h c. traced f g w l leader p.sound p.world entries counts p.begins p.ticked begins regs start h (feeds_at f g w (weave_of w l leader) leader woven regs h c)) bounds by cs b ordered free bound covers going;
     }
 
-    pub catches : Caught f g w.reached w.form.spans bounds
-    catches = caught_of f g w bounds calm catches_all
+    pub catches : CaughtInStep f g w.reached w.form.spans bounds before per
+    catches = caught_of f g w before per bounds calm catches_all
 
     -- so are wrong results, as changes
-    pub finds : FaultsFound f g w.reached w.form.spans bounds
-    finds = faults_found f g w bounds calm (omega (arith, are.register)) (λ b e. wide (word_count w.form.spans) b (sym are.word ∙ e)) catches_all where
+    pub finds : FaultsFound f g w.reached w.form.spans bounds before per
+    finds = faults_found f g w before per bounds calm (omega (arith, are.register)) (λ b e. wide (word_count w.form.spans) b (sym are.word ∙ e)) catches_all where
       wide : (n b : ℕ) → word_bound l.land n w.form.round (swept_steps w) (period l.land (check_steps w) l.every) ≡ Some b → 2 ≤ b
       wide zero b e = absurd (cc)
       wide (suc n) b e =
@@ -214,24 +223,29 @@ module _ (f g : Program) (w : World) (l : Lean) (blocks : List Block) (p : LeanP
           omega (arith, is)
 
   -- ---- with the sweep none ends silently
-  pub cleans : w.form.sweep ≡ true → Clean f g w.reached w.form.spans (sweep_cost w.form.spans + 14)
+  pub cleans : w.form.sweep ≡ true → CleanInStep f g w.reached w.form.spans (sweep_cost w.form.spans + 14) before per
   cleans sweeps = record {
-    settles = λ regs cs e start ordered free early ended first steady.
-        cleaned f g w calm (sweep_cost w.form.spans) regs start cs e ordered free early ended first steady (λ always going. swept_end f g w l leader p.sound p.world entries counts p.begins p.ticked begins regs start e always sweeps ended going);
+    settles = λ regs cs e start ordered free early ended first covers.
+        cleaned f g w before per calm (sweep_cost w.form.spans) regs start cs e ordered free early ended first covers (λ always going. swept_end f g w l leader p.sound p.world entries counts p.begins p.ticked begins regs start e always sweeps ended going);
   }
 
 -- ---- the laws
+-- the bound on the steps for each step of the input
+pub stage_is : (l : Lean) (c m : ℕ) → 2 * entry_steps l.land + (call_steps l.land + c) + (m + 27) ≡ 27 + call_steps l.land + 2 * entry_steps l.land + c + m
+stage_is l c m = omega arith
+
 pub lean_kept : LeanKept
-lean_kept f g w l blocks p = subst (λ n. Kept f g w.reached (31 + swept_steps w) n) (sum (check_steps w) (cost_of l.diverse * l.inst_max)) (kept f g w (weave_of w l (begins_at blocks)) (begins_at blocks) (woven f g w l blocks p)) where
-  sum : (c m : ℕ) → 2 * entry_steps l.land + (call_steps l.land + c) + (m + 27) ≡ 27 + call_steps l.land + 2 * entry_steps l.land + c + m
-  sum c m = omega arith
+lean_kept f g w l blocks p = subst (λ n. Kept f g w.reached (start_of w) n) (stage_is l (check_steps w) (cost_of l.diverse * l.inst_max)) (kept f g w (weave_of w l (begins_at blocks)) (begins_at blocks) (woven f g w l blocks p))
+
+pub lean_in_step : LeanKeptInStep
+lean_in_step f g w l blocks p = subst (λ n. KeptInStep f g w.reached w.distance (start_of w) n) (stage_is l (check_steps w) (cost_of l.diverse * l.inst_max)) (in_step f g w (weave_of w l (begins_at blocks)) (begins_at blocks) (woven f g w l blocks p) (omega arith))
 
 pub lean_caught : LeanCaught
-lean_caught f g w l blocks bounds p round are = catches f g w l blocks p round bounds are
+lean_caught f g w l blocks bounds p round are = subst (λ n. CaughtInStep f g w.reached w.form.spans bounds (start_of w) n) (stage_is l (check_steps w) (cost_of l.diverse * l.inst_max)) (catches f g w l blocks p round bounds are)
 
 pub lean_faults :
-    (f g : Program) (w : World) (l : Lean) (blocks : List Block) (bounds : Bounds) → LeanPlan f g w l blocks → 1 ≤ w.form.round → IsBoundsOf w l bounds → FaultsFound f g w.reached w.form.spans bounds
-lean_faults f g w l blocks bounds p round are = finds f g w l blocks p round bounds are
+    (f g : Program) (w : World) (l : Lean) (blocks : List Block) (bounds : Bounds) → LeanPlan f g w l blocks → 1 ≤ w.form.round → IsBoundsOf w l bounds → FaultsFound f g w.reached w.form.spans bounds (start_of w) (piece_of w l)
+lean_faults f g w l blocks bounds p round are = subst (λ n. FaultsFound f g w.reached w.form.spans bounds (start_of w) n) (stage_is l (check_steps w) (cost_of l.diverse * l.inst_max)) (finds f g w l blocks p round bounds are)
 
 pub lean_clean : LeanClean
-lean_clean f g w l blocks p sweeps = cleans f g w l blocks p sweeps
+lean_clean f g w l blocks p sweeps = subst (λ n. CleanInStep f g w.reached w.form.spans (sweep_cost w.form.spans + 14) (start_of w) n) (stage_is l (check_steps w) (cost_of l.diverse * l.inst_max)) (cleans f g w l blocks p sweeps)

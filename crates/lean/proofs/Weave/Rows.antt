@@ -11,7 +11,7 @@ use Rattle.machine.proofs.Lemmas.{Over, over_moved, Walk, walk_none, walk_on}
 use Rattle.weave_core.specs.World.{World, Quiet, Twice, IsCursor, words_on, Item, State, reg, moved, run}
 use Rattle.weave_core.specs.Rows.{At, Sourced}
 use Rattle.weave_core.specs.Weave.{Weave}
-use Rattle.weave_core.specs.WeaveLaws.{PieceAt, Stands, GoesTo, Inside}
+use Rattle.weave_core.specs.WeaveLaws.{PieceAt, Stands, GoesTo, Inside, Trail}
 use Rattle.weave_core.proofs.Lemmas.{writes, halved_writes, words_within}
 use Rattle.lean.specs.Ticked.{counted, is_ticked_at}
 use Rattle.qed_model.specs.Weave.LeanBounds.{cost_of, entry_steps, call_steps}
@@ -273,17 +273,19 @@ module _ (w : World) (l : Lean) (leader : ℕ → Bool) (x : LeanIn w l leader) 
 
   pub piece_law :
       (is : List Ins) (b : ℕ) (u s : State) (rest : List Item) → is_ticked_at l.every w u b ≡ true → PieceAt w v s.pc is → At w u (v.code.piece is s.pc ++ rest) s s → Sourced w s
-      → NotTrapped (run s (length is)) → GoesTo w u (length is) (cost_of l.diverse * l.inst_max) (λ n y. At w y rest (run s (length is)) (run s (length is)) × (is_ticked_at l.every w y b ≡ true))
+      → NotTrapped (run s (length is)) → GoesTo w u (length is) (cost_of l.diverse * l.inst_max) (λ n y. At w y rest (run s (length is)) (run s (length is)) × (is_ticked_at l.every w y b ≡ true) × Trail w u s (length is) n)
   piece_law is b u s rest held p a so calm =
       let k = piece_part l.diverse w is in
-      let g = k.row u s rest (record { fit = p.fit; clean = (and_parts _ _ p.one).0; has = p.has; sourced = so; calm = calm }) a in
+      let r = k.row u s rest (record { fit = p.fit; clean = (and_parts _ _ p.one).0; has = p.has; sourced = so; calm = calm }) a in
+      let g = r.led in
       let most = most_of is p.one in
-      record { steps = g.steps; to = g.to; at_least = g.at_least; within = omega (arith, g.within, k.few, most); walk = g.walk; is = (g.at, ticked_same l.every w u g.to b g.cursor g.sign held) }
+      record { steps = g.steps; to = g.to; at_least = g.at_least; within = omega (arith, g.within, k.few, most); walk = g.walk; is = (g.at, ticked_same l.every w u g.to b g.cursor g.sign held, r.trail) }
 
   pub inside_law :
       (is : List Ins) (n : ℕ) (u s : State) (rest : List Item) → n < length is → PieceAt w v s.pc is → At w u (v.code.piece is s.pc ++ rest) s s → Sourced w s → NotTrapped (run s n)
-      → GoesTo w u n (cost_of l.diverse * l.inst_max) (λ k y. Inside w s n y)
+      → GoesTo w u n (cost_of l.diverse * l.inst_max) (λ k y. Inside w u s n k y × (k < cost_of l.diverse * l.inst_max))
   inside_law is n u s rest lt p a so calm =
-      let g = (piece_part l.diverse w is).inside n u s rest lt (record { fit = p.fit; clean = (and_parts _ _ p.one).0; has = p.has; sourced = so; calm = calm }) a in
+      let k = piece_part l.diverse w is in
+      let g = k.inside n u s rest lt (record { fit = p.fit; clean = (and_parts _ _ p.one).0; has = p.has; sourced = so; calm = calm }) a in
       let most = most_of is p.one in
-      record { steps = g.steps; to = g.to; at_least = g.at_least; within = omega (arith, g.within, most); walk = g.walk; is = g.is }
+      record { steps = g.steps; to = g.to; at_least = g.at_least; within = omega (arith, g.is.1, k.few, most); walk = g.walk; is = (g.is.0, omega (arith, g.is.1, k.few, most)) }

@@ -40,7 +40,7 @@ use Rattle.lean.proofs.Weave.Landed.{lean_landed}
 use Rattle.lean.proofs.Weave.Piece.{store_class}
 use Rattle.lean.proofs.Weave.Plan.{entry_grain}
 use Rattle.lean.proofs.Weave.Strays.{lean_strayed}
-use Rattle.lean.proofs.Weave.Promise.{lean_kept, lean_caught, lean_faults, lean_clean}
+use Rattle.lean.proofs.Weave.Promise.{lean_in_step, lean_caught, lean_faults, lean_clean}
 use Rattle.lean.proofs.Weave.Unmarked.{unmarked_worded, entry_same, same_code, code_size}
 use Rattle.std.specs.List.{list_all}
 use Rattle.std.proofs.lemmas.List.{append_assoc}
@@ -397,7 +397,7 @@ module _ (f : ElfFile) (o : Options) (every : ℕ) (blocks : List Block) (t : Ar
 
 -- ---- the laws
 pub tests_kept : LeanTestsKept
-tests_kept f o every blocks words t reached aims = lean_kept (input f o every blocks t.cut words t) (output f o every blocks t.cut words t) (w f o every blocks t.cut words t reached aims) (lean_of f o every blocks) blocks (plan f o every blocks t.cut words t reached aims)
+tests_kept f o every blocks words t reached aims = lean_in_step (input f o every blocks t.cut words t) (output f o every blocks t.cut words t) (w f o every blocks t.cut words t reached aims) (lean_of f o every blocks) blocks (plan f o every blocks t.cut words t reached aims)
 
 pub tests_caught : LeanTestsCaught
 tests_caught f o every blocks words t reached aims =
