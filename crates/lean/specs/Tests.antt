@@ -23,7 +23,7 @@ use Rattle.qed_model.specs.Weave.Sequences.{Block}
 use Rattle.qed_model.specs.Weave.LeanCode.{lean_items}
 use Rattle.qed_model.specs.Weave.LeanBounds.{lean_bounds}
 use Rattle.weave_core.specs.Leaving.{sweep_cost}
-use Rattle.lockstep.specs.InstructionFaults.{FaultsFound}
+use Rattle.qed_model.specs.Promise.Faults.{FaultsFound}
 use Rattle.lean.specs.Strayed.{Strayed, code_in, entry_in}
 
 -- ---- the test

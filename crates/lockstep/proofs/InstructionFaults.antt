@@ -27,7 +27,8 @@ use Rattle.weave_core.specs.World.{World, Going, put, number, Program, start, Ar
 use Rattle.weave_core.proofs.Lemmas.{mirrors_of, form_rows, form_starts, width_le, known_same}
 use Rattle.weave_core.proofs.TestKept as kept
 use Rattle.lockstep.specs.Closes.{Closes}
-use Rattle.lockstep.specs.InstructionFaults.{WritesOriginal, StoresOriginal, word_around, GivesAny, StoresAny, FaultsFound, InstructionFaultsAreCaught}
+use Rattle.qed_model.specs.Promise.Faults.{WritesOriginal, StoresOriginal, word_around, GivesAny, StoresAny, FaultsFound}
+use Rattle.lockstep.specs.InstructionFaults.{InstructionFaultsAreCaught}
 use Rattle.lockstep.specs.Promise.{IsBoundsOf}
 use Rattle.lockstep.proofs.FormWords.{form_words, bounds_in, plan_caught_all, stage_is, start_is}
 use Rattle.lockstep.proofs.Promise.{CaughtAll}

@@ -16,7 +16,7 @@ use Rattle.qed_model.specs.Promise.Kept.{is_trapped, NotTrapped}
 use Rattle.machine.proofs.Lemmas.{step-class, run-more, run-last}
 use Rattle.weave_core.specs.Lock.{Opens, HasKind, scratch_compute, scratch_load, scratch_store, scratch_branch, jumps, scratch_jump, computes, fences, loads, stores as stores_kind, guards, guards_back, breaks, takes, branches, forks, ends, no_word, visits}
 use Rattle.weave_core.proofs.Lemmas.{run-ended}
-use Rattle.lockstep.specs.InstructionFaults.{WritesOriginal, GivesAny, gives, skips}
+use Rattle.qed_model.specs.Promise.Faults.{WritesOriginal, GivesAny, gives, skips}
 use Rattle.lockstep.proofs.Ground.{run-fired}
 
 -- ---- behind an instruction that computes or accesses memory no register is closed

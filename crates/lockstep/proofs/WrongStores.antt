@@ -7,7 +7,7 @@ use Rattle.machine.specs.declared.place.Place.TheVariants.{Word}
 use Rattle.weave_core.specs.World.{Memory, Cell, put, offset, wrap, byte_of, byte_in, byte_at, number, flags_at, with_byte, get, State, stored, next_pc, place, Ins, width_of}
 use Rattle.machine.specs.Struck.{struck}
 use Rattle.machine.proofs.Lemmas.{get-put, get-put_outside, same_memory, wrap_offset, flags-put}
-use Rattle.lockstep.specs.InstructionFaults.{word_around, StoresAny, stores, leaves}
+use Rattle.qed_model.specs.Promise.Faults.{word_around, StoresAny, stores, leaves}
 use Rattle.weave_core.proofs.Lemmas.{small_put}
 
 -- ---- a number is its bytes

@@ -7,3 +7,4 @@ pub mod Changed
 pub mod Caught
 pub mod Clean
 pub mod InStep
+pub mod Faults

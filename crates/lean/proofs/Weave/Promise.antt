@@ -23,7 +23,7 @@ use Rattle.weave_core.specs.Weave.{stage_steps, start_steps}
 use Rattle.weave_core.specs.WeaveLaws.{EntriesAt}
 use Rattle.weave_core.proofs.Lemmas.{reads_front, instructions_then, reads_words, stub_opens, items_then, all_land_append, has_rest, opens_behind, length-instructions, WeaveIn, kept, in_step, feeds_at, quiet_before}
 use Rattle.lockstep.proofs.Lemmas.{round_some, CalmCode, cleaned, faults_found, WordAt, stub_words, reads_rest, word_of, stub_open, Times, BoundsBy, CaughtAll, caught_of, settles_all, Sizes, all_blocks}
-use Rattle.lockstep.specs.InstructionFaults.{FaultsFound}
+use Rattle.qed_model.specs.Promise.Faults.{FaultsFound}
 use Rattle.lean.specs.Woven.{LeanPlan, LeanKept, LeanKeptInStep, LeanCaught, LeanClean, IsBoundsOf, weave_of, check_steps, swept_steps, start_of, piece_of}
 use Rattle.lean.proofs.Weave.Beats.{sizes, traced, Bound, swept_end}
 use Rattle.lean.proofs.Weave.Begin.{lean_starts}

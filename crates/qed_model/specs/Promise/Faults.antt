@@ -1,0 +1,53 @@
+-- Wrong instructions: an original instruction of a test gives another result once, or is skipped once.
+use Rattle.std.specs.Prelude.{◌≡◌, ◌⊎◌, ℕ, ◌+◌, ◌-◌, ◌*◌, ◌/◌, ◌≤◌, Bool, List, Some}
+use Rattle.rv_isa.specs.declared.class.Class.TheVariants as class
+use Rattle.rv_isa.specs.declared.profile.TheConstants.{LAST_ORIGINAL}
+use Rattle.qed_model.specs.declared.bounds.Bounds.{Bounds}
+use Rattle.machine.specs.declared.outcome.Outcome.TheVariants.{Going}
+use Rattle.machine.specs.Memory.{put}
+use Rattle.machine.specs.Program.{Program, AreStartRegs}
+use Rattle.machine.specs.Step.{State, moved, stored, next_pc, place, Known, next, run, Ins, class_of, set_reg}
+use Rattle.machine.specs.Values.{width_of}
+use Rattle.qed_model.specs.Promise.Changed.{IsDataWord}
+use Rattle.qed_model.specs.Promise.InStep.{SettlesWithin}
+use Rattle.qed_model.specs.Promise.Kept.{after_output}
+use Rattle.qed_model.specs.Promise.OwnSteps.{Covers}
+
+-- ---- the instructions
+-- it computes or loads a number for one of x1 to x13
+pub record WritesOriginal (i : Ins) : Type 0 where
+  pub writes : (class_of i.kind ≡ class.Compute) ⊎ (class_of i.kind ≡ class.Load)
+  pub some : 1 ≤ i.rd
+  pub low : i.rd ≤ LAST_ORIGINAL
+
+-- the aligned word that has a byte
+abbrev pub word_around : ℕ → ℕ
+word_around q = 8 * (q / 8)
+
+-- in this state it stores into data words of the original half
+pub record StoresOriginal (spans : List (ℕ × ℕ)) (i : Ins) (u : State) : Type 0 where
+  pub stores : class_of i.kind ≡ class.Store
+  pub first : IsDataWord spans (word_around (place i u))
+  pub last : IsDataWord spans (word_around (place i u + width_of i.kind - 1))
+
+-- ---- what goes wrong
+-- the state behind it is as if it had given some number, or as if it had done nothing
+pub data GivesAny (i : Ins) (u v : State) : Type 0 where
+  gives : (x : ℕ) → v ≡ moved (set_reg i.rd x u.regs) (next_pc u) u → GivesAny i u v
+  skips : v ≡ moved u.regs (next_pc u) u → GivesAny i u v
+
+-- the same of a store
+pub data StoresAny (i : Ins) (u v : State) : Type 0 where
+  stores : (x : ℕ) → v ≡ stored (put u.memory (place i u) (width_of i.kind) x) (next_pc u) u → StoresAny i u v
+  leaves : v ≡ moved u.regs (next_pc u) u → StoresAny i u v
+
+-- ---- the promise
+-- wherever the output's run without faults goes on at such an instruction, as far as the input is steady for the steps that are made of it
+pub record FaultsFound (f g : Program) (reached : ℕ → Bool) (spans : List (ℕ × ℕ)) (bounds : Bounds) (first bound : ℕ) : Type 0 where
+  pub results :
+      (regs : List ℕ) (n : ℕ) (i : Ins) (v : State) → AreStartRegs regs → (after_output g regs n).outcome ≡ Going → next (after_output g regs n) ≡ Known i → WritesOriginal i
+      → GivesAny i (after_output g regs n) v → Covers f g reached first bound regs (n + 1 + bounds.register) → SettlesWithin spans 0 bounds.register (run v) (λ k. after_output g regs (n + 1 + k))
+  pub stores :
+      (regs : List ℕ) (n b : ℕ) (i : Ins) (v : State) → AreStartRegs regs → (after_output g regs n).outcome ≡ Going → next (after_output g regs n) ≡ Known i
+      → StoresOriginal spans i (after_output g regs n) → StoresAny i (after_output g regs n) v → bounds.word ≡ Some b → Covers f g reached first bound regs (n + 1 + b)
+      → SettlesWithin spans 0 b (run v) (λ k. after_output g regs (n + 1 + k))
