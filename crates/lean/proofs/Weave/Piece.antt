@@ -17,10 +17,10 @@ use Rattle.machine.proofs.Lemmas.{Walk, walk_none, walk_on, run-more}
 use Rattle.weave_core.specs.World.{World, Quiet as Calm, Item, Going, State, Known, reg, run, step, HasAt, Ins}
 use Rattle.weave_core.specs.Blocks.{FitsPiece, AllFit}
 use Rattle.weave_core.specs.Rows.{At, Sourced, Led}
-use Rattle.weave_core.specs.WeaveLaws.{GoesTo, Met, Trail, Inside}
+use Rattle.weave_core.specs.WeaveLaws.{GoesTo, Trail, Inside}
 use Rattle.weave_core.specs.Parts.{any, bare, NeedsMirror, GivesMirror, LeavesMirror}
 use Rattle.weave_core.specs.Pass.{Views, Quiet, same}
-use Rattle.weave_core.proofs.Lemmas.{mirrored_part, diverse_row, leads_led, quiet_each, each_same, plus, each_plus, quiet_front, front_row, never_originals, never_mirrors, for_mirrors, needs_originals, gives_originals, needs_mirrors, gives_mirrors, guarded_original, has_front, has_rest, not_trapped_le, source_run, one_run, store_row, holds_of, met_going, met_same, originals_trail, trail_later, trail_none, trail_on, trail_one}
+use Rattle.weave_core.proofs.Lemmas.{mirrored_part, diverse_row, leads_led, quiet_each, each_same, plus, each_plus, quiet_front, front_row, never_originals, never_mirrors, for_mirrors, needs_originals, gives_originals, needs_mirrors, gives_mirrors, guarded_original, has_front, has_rest, not_trapped_le, source_run, one_run, store_row, Row, met_at, met_same, originals_trail, trail_later, trail_none, trail_on, trail_one}
 use Rattle.lean.proofs.Weave.Costs.{run_most, both_most}
 
 -- a mirror part of either kind
@@ -40,16 +40,6 @@ quiet_mirror diverse i at f = record {
 -- the steps of instructions that do not store, in both parts
 abbrev pub run_steps : Bool → List Ins → ℕ
 run_steps diverse is = cost_each original_cost is + cost_each (mirror_steps_of diverse) is
-
--- ---- rows with their trails
--- items lead through n steps of the input, and on the way the output comes to each of its states
-pub record Row (w : World) (u s : State) (n most : ℕ) (rest : List Item) : Type 0 where
-  pub led : Led w u n most rest (run s n) (run s n)
-  pub trail : Trail w u s n led.steps
-
--- both halves are those of s
-pub met_at : (w : World) (u s : State) (rest : List Item) → At w u rest s s → s.outcome ≡ Going → Met w u s
-met_at w u s rest a going = met_going w u s (holds_of w u s s a.halved) a.over.going going
 
 -- ---- a run
 module _ (diverse : Bool) (w : World) (is : List Ins) (s : State) (fit : AllFit is) (clean : is_run is ≡ true) (has : HasAt w.source s.pc is) (so : Sourced w s) (calm : NotTrapped (run s (length is))) where
