@@ -135,7 +135,7 @@ module _ (w : World) (law : Mirrors w) where
         let g = front_row w r n u s (each_part w.form.mirror r s.pc ++ mid) h f.0 both.0 front a2 so calm in
         let few : suc n ≤ length (r ++ whole rs) = omega (arith, h, len) in
         let m : 3 * suc n ≤ w.form.cost * length (r ++ whole rs) = mul-le-mul law.enough few in
-        record { steps = g.steps; to = g.to; at_least = g.at_least; within = omega (arith, g.within, m); walk = g.walk; is = (g.is, omega (arith, g.within, m)) }
+        record { steps = g.steps; to = g.to; at_least = g.at_least; within = omega (arith, g.within, m); walk = g.walk; is = (g.is.0, omega (arith, g.within, m)) }
 
     -- in a later one
     behind :

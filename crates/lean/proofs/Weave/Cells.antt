@@ -14,13 +14,13 @@ use Rattle.weave_core.specs.Blocks.{IsEntryOf}
 use Rattle.weave_core.specs.Rows.{At, Sourced}
 use Rattle.weave_core.specs.Weave.{Weave}
 use Rattle.weave_core.specs.WeaveLaws.{PieceAt, PiecesAt, EntriesAt, Met, Trail, Feeds, Stands, stops, Onward, lands, is_lost, GoesTo}
-use Rattle.weave_core.proofs.Lemmas.{no_code, source_run, steady_le, steady_none, none_run, one_run, holds_of, met_going, met_same, trail_first, trail_leave, trail_none, trail_on, feeds_first, feeds_less, feeds_on}
+use Rattle.weave_core.proofs.Lemmas.{no_code, source_run, steady_le, steady_none, none_run, one_run, holds_of, met_at, met_going, met_same, trail_first, trail_leave, trail_none, trail_on, feeds_first, feeds_less, feeds_on}
 use Rattle.lean.specs.Woven.{weave_of, LeanIn, swept_steps, owed, IsCounted}
 use Rattle.lean.proofs.Weave.Costs.{entry_some}
 use Rattle.lean.proofs.Weave.End.{Sweeps, swept_on}
 use Rattle.lean.proofs.Weave.Leave.{SignedAs}
 use Rattle.lean.proofs.Weave.Left.{Parts, OnWay, leave_row}
-use Rattle.lean.proofs.Weave.Piece.{piece_part, met_at}
+use Rattle.lean.proofs.Weave.Piece.{piece_part}
 use Rattle.lean.proofs.Weave.Rows.{Entered as EnteredAt, Enters, AtCheck, passes, skips, calls}
 use Rattle.lean.specs.Ticked.{counted}
 use Rattle.lean.proofs.Weave.Held.{ticked_of}

@@ -17,10 +17,10 @@ use Rattle.machine.proofs.Lemmas.{Walk, walk_none, walk_on, run-more}
 use Rattle.weave_core.specs.World.{World, Quiet as Calm, Item, Going, State, Known, reg, run, step, HasAt, Ins}
 use Rattle.weave_core.specs.Blocks.{FitsPiece, AllFit}
 use Rattle.weave_core.specs.Rows.{At, Sourced, Led}
-use Rattle.weave_core.specs.WeaveLaws.{GoesTo, Met, Trail, Inside}
+use Rattle.weave_core.specs.WeaveLaws.{GoesTo, Trail, Inside}
 use Rattle.weave_core.specs.Parts.{any, bare, NeedsMirror, GivesMirror, LeavesMirror}
 use Rattle.weave_core.specs.Pass.{Views, Quiet, same}
-use Rattle.weave_core.proofs.Lemmas.{Row, met_at, mirrored_part, diverse_row, leads_led, quiet_each, each_same, plus, each_plus, quiet_front, front_row, never_originals, never_mirrors, for_mirrors, needs_originals, gives_originals, needs_mirrors, gives_mirrors, guarded_original, has_front, has_rest, not_trapped_le, source_run, one_run, store_row, holds_of, met_going, met_same, originals_trail, trail_later, trail_none, trail_on, trail_one}
+use Rattle.weave_core.proofs.Lemmas.{mirrored_part, diverse_row, leads_led, quiet_each, each_same, plus, each_plus, quiet_front, front_row, never_originals, never_mirrors, for_mirrors, needs_originals, gives_originals, needs_mirrors, gives_mirrors, guarded_original, has_front, has_rest, not_trapped_le, source_run, one_run, store_row, Row, met_at, met_same, originals_trail, trail_later, trail_none, trail_on, trail_one}
 use Rattle.lean.proofs.Weave.Costs.{run_most, both_most}
 
 -- a mirror part of either kind
