@@ -1,6 +1,6 @@
 use Rattle.std.proofs.Common.{rules, ◌≡◌, ◌+◌, ◌<◌, length, get_or, sym, ap, ◌∙◌}
 use Rattle.weave.proofs.BodyLeft.{take_fits}
-use Rattle.lean.proofs.Pieces.{Behind, low_store, one_more, run_comes, store_behind, to_end, same_behind}
+use Rattle.lean.proofs.Pieces.{low_store, one_more, run_comes, store_behind, to_end, same_behind}
 use Rattle.lean.proofs.piece.weave_piece.Goals as goal
 use Rattle.lean.proofs.piece.weave_piece.Goals.{then-is_store+in_ok-weave_through, else-is_store}
 
