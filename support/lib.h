@@ -7,6 +7,10 @@ typedef unsigned short u16;
 typedef unsigned int u32;
 typedef unsigned long u64;
 
+#ifdef __cplusplus
+extern "C" {
+#endif
+
 /* start.S loads these into x10 to x13 at the end. A test may define them itself. */
 extern u64 result[4];
 
@@ -34,5 +38,9 @@ void print_list(const char *format, const u64 *values);
 /* PRINT("%d of %s\n", count, TEXT(name)) */
 #define PRINT(format, ...) print_list(format, (const u64[]){0, ##__VA_ARGS__} + 1)
 #define TEXT(text) ((u64)(text))
+
+#ifdef __cplusplus
+}
+#endif
 
 #endif
