@@ -36,7 +36,7 @@ extern char printed[PRINTED_SIZE];
 void print_list(const char *format, const u64 *values);
 
 /* PRINT("%d of %s\n", count, TEXT(name)) */
-#define PRINT(format, ...) print_list(format, (const u64[]){0, ##__VA_ARGS__} + 1)
+#define PRINT(format, ...) do { const u64 values_[] = {0, ##__VA_ARGS__}; print_list(format, values_ + 1); } while (0)
 #define TEXT(text) ((u64)(text))
 
 #ifdef __cplusplus
