@@ -169,6 +169,7 @@ def histogram_svg(strikes, bounds):
 def read_output(name):
     """An output as the reference reads it, and its pairs of a new and an input address, ascending."""
     sys.path.insert(0, os.path.join(os.path.dirname(os.path.abspath(__file__)), "..", "reference"))
+    sys.dont_write_bytecode = True  # nothing is left in the folder of a package
     from elf import read_elf
     from texts import Exceeded, Refused
     try:
