@@ -3,10 +3,18 @@
 set -euo pipefail
 here=$(cd "$(dirname "$0")" && pwd)
 program=$(realpath -m "${1:-${QED:-$here/../../crates/qed/out/qed}}")
-flags="-march=rv64im -mabi=lp64 -ffreestanding -fno-pic -mcmodel=medany -nostdlib -static $(printf -- '-ffixed-x%d ' {14..31})"
+support=$(realpath "$here/../../support")
+qemu="qemu-system-riscv64 -machine virt -display none -monitor none -bios stub.elf"
 
 # What is told on standard error is for who types the command, and differs by the compiler.
 qed() { "$program" "$@" 2> "/dev/null"; }
+qedcc() { "$support/qedcc" --qed "$program" "$@" 2> "/dev/null"; }
+
+# Makes stub.elf: the stub of QEMU's board with the output woven.elf. More words go to the compiler.
+board() {
+    riscv64-unknown-elf-gcc @"$support/board/board.flags" -DOUTPUT='"woven.elf"' "$@" \
+        -T "$support/board/board.ld" "$support/board/stub.S" "$support/board/board.c" -o stub.elf
+}
 
 # Tells what an example leaves out and why, in a line for examples/check.
 left_out() { echo "left out: $*"; }
@@ -18,11 +26,11 @@ needs() {
     [ -z "$missing" ] || { left_out "all, no$missing"; exit 77; }
 }
 
-# The newest Clang from 15 on: an older one does not heed -ffixed-x14. With it the linker, which goes by its name.
+# The newest Clang from 15 on that has its linker: an older one ignores -ffixed-x14.
 clang_15() {
     local number
     for number in {25..15}; do
-        if command -v "clang-$number" && command -v "ld.lld-$number" ld.lld | head -n 1; then return; fi
+        if command -v "ld.lld-$number" > "/dev/null" && command -v "clang-$number"; then return; fi
     done
     return 1
 }

@@ -3,10 +3,21 @@
 #
 #     scripts/campaign_parallel.sh FIRST-LAST PROGRAM IN FOLDER COUNT [OPTION..]
 #
-# Leaves FOLDER/seed-I.txt for each seed from FIRST to LAST, under this name only when it is whole; a seed that is there is
-# passed over, so a call that was stopped goes on. JOBS is how many run at once, by default one for each processor.
+# Leaves FOLDER/seed-I.txt for each seed from FIRST to LAST, under this name only when it is whole. It passes over a seed that
+# is there, so a call that was stopped goes on. COUNT is the strikes of a seed, at most 10,000; OPTION.. go to `campaign`.
+# JOBS is how many run at once, by default one for each processor. If standard error is a terminal, it shows progress there.
+# Exit status: how many jobs failed, 2 for words that do not fit, 77 without GNU parallel.
 set -euo pipefail
-first=${1%-*} last=${1#*-} program=$2 input=$3 folder=$4 count=$5
+if [ $# -lt 5 ] || ! [[ $1 =~ ^[0-9]+-[0-9]+$ ]]; then
+    sed -n '2,/^set/s/^# \{0,1\}//p' "$0" >&2
+    exit 2
+fi
+if ! parallel --version 2> /dev/null | grep -q GNU; then
+    echo "campaign_parallel.sh: no GNU parallel" >&2
+    exit 77
+fi
+first=${1%-*} last=${1#*-} program=$2 input=$3 folder=$4 count=$5 bar=()
+[ ! -t 2 ] || bar=(--bar)
 mkdir -p "$folder"
 one() {
     local seed=$1 program=$2 input=$3 folder=$4 count=$5
@@ -15,4 +26,5 @@ one() {
         mv "$folder/.seed-$seed.part" "$folder/seed-$seed.txt"
 }
 export -f one
-SHELL=$(command -v bash) parallel --will-cite --jobs "${JOBS:-100%}" one {} "$program" "$input" "$folder" "$count" "${@:6}" ::: $(seq "$first" "$last")
+SHELL=$(command -v bash) parallel --will-cite ${bar[@]+"${bar[@]}"} --jobs "${JOBS:-100%}" \
+    one {} "$program" "$input" "$folder" "$count" "${@:6}" ::: $(seq "$first" "$last")

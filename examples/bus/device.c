@@ -1,8 +1,8 @@
 /* What a test must not do: it reads the device itself. */
-unsigned long result[4];
+#include "lib.h"
 
 int main(void)
 {
-    result[0] = *(volatile unsigned int *)0x10001000;
+    result[0] = *(volatile u32 *)0x10001000;
     return 0;
 }

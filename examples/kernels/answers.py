@@ -12,7 +12,7 @@ PRIME = 2147483647
 
 
 def numbers(state):
-    """The generator of support.c."""
+    """The generator of common.c."""
     while True:
         state = (state * 6364136223846793005 + 1442695040888963407) % U64
         yield state >> 33

@@ -1,9 +1,15 @@
 # What stands on the board beside an output: it starts first, in machine mode, and every trap comes here.
+#ifndef BOOT_HART
+#define BOOT_HART 0
+#endif
         .option norelax
         .section .text.start, "ax"
         .globl  reset, enter
 reset:  csrw    mie, zero               # no interrupts: none is part of the test
         csrci   mstatus, 8
+        csrr    t0, mhartid
+        li      t1, BOOT_HART
+        bne     t0, t1, park            # the other harts stay here
         la      sp, stub_stack
         la      t0, trap
         csrw    mtvec, t0               # direct mode: all traps go to `trap`
@@ -16,7 +22,7 @@ enter:  fence.i                         # what was stored is fetched
         csrw    mscratch, t0
         jr      a0
 
-# Saves x1 to x31 as the output left them, and tells what came.
+# Saves x1 to x31 as the output left them, and reports what came.
         .balign 4
 trap:   csrrw   x31, mscratch, x31
         .irp    r, 1,2,3,4,5,6,7,8,9,10,11,12,13,14,15,16,17,18,19,20,21,22,23,24,25,26,27,28,29,30
@@ -28,9 +34,9 @@ trap:   csrrw   x31, mscratch, x31
         la      sp, stub_stack
         csrr    a0, mcause
         csrr    a1, mepc
-        call    tell                    # tell(cause, pc, registers), which stops the board
-1:      wfi
-        j       1b
+        call    report                  # report(cause, pc, registers), which stops the board
+park:   wfi
+        j       park
 
 # The output, as `qed transform` stored it.
         .section .rodata.output, "a"

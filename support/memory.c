@@ -1,8 +1,5 @@
-/* What the compilers call on their own, and what all kernels have. `volatile` keeps these loops from becoming calls of themselves. */
-#include "kernel.h"
-
-u64 result[4];
-volatile u64 one = 1;
+/* The compilers call these on their own. `volatile` keeps the loops from becoming calls of themselves. */
+#include "lib.h"
 
 void *memset(void *to, int byte, u64 size)
 {
@@ -39,10 +36,4 @@ int memcmp(const void *left, const void *right, u64 size)
         if (*l != *r)
             return *l - *r;
     return 0;
-}
-
-APART u32 next_number(u64 *state)
-{
-    *state = *state * 6364136223846793005ul + 1442695040888963407ul;
-    return *state >> 33;
 }
