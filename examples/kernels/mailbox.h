@@ -1,4 +1,4 @@
-/* What the board of examples/chip tells behind the registers of a test that has ended: the address and the CRC-32 of each
+/* What the board of support tells behind the registers of a test that has ended: the address and the CRC-32 of each
    segment that is not executed, as it stands then. */
 static void before(void) {}
 
@@ -16,11 +16,10 @@ static u32 crc_of(const u8 *at, u64 size)
 
 static void after(void)
 {
-    const struct header *header = (const struct header *)output;
-    const struct segment *at = (const struct segment *)(output + header->phoff);
+    const struct segment *at = segments();
     u64 i;
     for (i = 0; i < header->phnum; i++, at++)
-        if (at->type == 1 && !(at->flags & 1)) {
+        if (at->type == LOAD && !(at->flags & 1)) {
             put_hex(at->address);
             put(" ");
             put_hex(crc_of((const u8 *)at->address, at->in_memory));
