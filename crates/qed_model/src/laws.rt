@@ -13,7 +13,7 @@ pub fn roles_cover()
     ensures { RolesCover }
 {}
 
-/// What is promised as far as the input is steady for its own steps holds also as far as it is steady for as many steps as the output
+/// What is promised as long as the input is steady for its own steps also holds as long as it is steady for as many steps as the output
 /// makes.
 #[tactic(auto, using(crate::proofs::Following::promises_follow))]
 pub fn promises_follow()

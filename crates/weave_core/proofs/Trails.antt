@@ -61,7 +61,7 @@ module _ (w : World) where
   trail_first u x s m e zero m' b = met_same (run u (m + m')) (run x m') s s (run-more u m m' ∙ ap (λ y. run y m') e) refl b
   trail_first u x s m e (suc n) m' b = (m + b.0, omega (arith, b.1), trail_first u x s m e n b.0 b.2, met_same (run u (m + m')) (run x m') (run s (suc n)) (run s (suc n)) (run-more u m m' ∙ ap (λ y. run y m') e) refl b.3)
 
-  -- ---- the input is steady as long as the output has made fewer steps than so many
+  -- ---- the input is steady as long as the output has made fewer than `room` steps
   pub feeds_less : (u s : State) (r room : ℕ) → r ≤ room → Feeds w u s room → Feeds w u s r
   feeds_less u s r room l f = record { more = λ n m t h. f.more n m t (omega (arith, h, l)) }
 

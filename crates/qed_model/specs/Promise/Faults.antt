@@ -42,7 +42,7 @@ pub data StoresAny (i : Ins) (u v : State) : Type 0 where
   leaves : v ≡ moved u.regs (next_pc u) u → StoresAny i u v
 
 -- ---- the promise
--- wherever the output's run without faults goes on at such an instruction, as far as the input is steady for the steps that are made of it
+-- wherever the output's run without faults goes on at such an instruction, as long as the input is steady for the steps that are made of it
 pub record FaultsFound (f g : Program) (reached : ℕ → Bool) (spans : List (ℕ × ℕ)) (bounds : Bounds) (first bound : ℕ) : Type 0 where
   pub results :
       (regs : List ℕ) (n : ℕ) (i : Ins) (v : State) → AreStartRegs regs → (after_output g regs n).outcome ≡ Going → next (after_output g regs n) ≡ Known i → WritesOriginal i

@@ -14,7 +14,7 @@ unfoldable pub each_below : ℕ → (ℕ → Bool) → Bool
 each_below zero test = true
 each_below (suc n) test = each_below n test && test n
 
--- the first of so many numbers from k on that passes a test, or the one behind them
+-- the first of n numbers from k on that passes a test, or the one behind them
 unfoldable pub first_from : (ℕ → Bool) → ℕ → ℕ → ℕ
 first_from test zero k = k
 first_from test (suc n) k = cond (test k) k (first_from test n (suc k))
