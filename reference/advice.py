@@ -8,14 +8,14 @@ from typing import List, Optional, Tuple
 
 import isa
 from admission import admit, blocks
-from calls import MOST_FILE, Shelf, answer, near_text, told
+from calls import MOST_FILE, Shelf, answer, fired_line, near_text, told
 from elf import File, read_elf
 from machine import Memory, loads_of
 from texts import MOST_OF_FILE_NAME, Stopped, encoded, printable
-from weave import DISTANCE, SIGNATURE, SPARE, T, bounds
+from weave import SIGNATURE, SPARE, T, Role, bounds
 from words import COMMANDS, OTHER_NAMES, Order, change_of, order_of
 
-LAST_ORIGINAL, PAIRS = 13, {0, *range(17, 30)}
+PAIRS = {0, *range(17, 30)}
 ABOVE_X13 = "a4 a5 a6 a7 s2 s3 s4 s5 s6 s7 s8 s9 s10 s11 t3 t4 t5 t6".split()
 SENTENCES = dict(line.split(" = ", 1) for line in told("sentences").splitlines())
 
@@ -162,30 +162,31 @@ def _unread(order: Order, shelf: Shelf) -> str:
     return ""
 
 
-def _compared(before: str, first: int, second: int) -> Optional[str]:
-    """What a check of an output compares that tests no register of the test, by its registers and the word before it."""
-    if first <= LAST_ORIGINAL and second == SPARE:
-        return f"x{first} and its pair, by way of x31, differ"
-    if {first, second} <= PAIRS:
-        return f"x{first} and x{second} decide otherwise than the originals of the branch"
-    if (first, second) == (DISTANCE, T):
-        return "x14 is not the distance of the halves"
+def _before(memory: Memory, address: int, far: int) -> Optional[isa.Instruction]:
+    """The instruction that stands so many bytes before an address."""
+    word = memory.load((address - far) % 2**64, 4)
+    return None if word is None else isa.decode(word)
+
+
+def _role(memory: Memory, ebreak: int, first: int, second: int) -> Role:
+    """The role of a check of an output, by its registers and the words before it."""
+    near = _before(memory, ebreak, 8)
+    if {first, second} <= PAIRS or (first, second) == (SIGNATURE, T) and near.name == "andi":
+        return Role("leave")
     if (first, second) == (SIGNATURE, T):
-        if before.startswith("andi "):
-            return "the jump by register leads elsewhere by the original than by its pair"
-        return ("the signature in x16 is not that of this entry" if before.startswith("addi ")
-                else "the check was called from another block than that of the signature")
+        address = (ebreak - 12 + _before(memory, ebreak, 12).imm + near.imm) % 2**64
+        return Role("entry", (address,)) if near.name == "addi" else Role("check")
     if (first, second) == (T, SPARE):
-        return ("two look-ups of the entry of the signature differ" if before.startswith("lui ")
-                else "the data word at the address in x15 and its duplicate differ")
-    return None
+        if near.name != "lui":
+            return Role("visit")
+        return Role("look-up" if _before(memory, ebreak, 40).rs1 == SIGNATURE else "leave")
+    return Role("guard", (), first)
 
 
 def _fired(file: File, ebreak: int, printed: str) -> str:
-    """What differed where a check fired, by the registers, the comparison before the EBREAK, and the word before that."""
+    """What differed where a check fired, by the registers, the comparison before the EBREAK, and the words before that."""
     memory = Memory(loads_of(file))
-    before, word = (memory.load((ebreak - far) % 2**64, 4) for far in (8, 4))
-    check = None if word is None else isa.decode(word)
+    check = _before(memory, ebreak, 4)
     is_output = any(section.name == b".qed.map" for section in file.sections)
     if check is None or check.group != "branch":
         return ""
@@ -196,8 +197,8 @@ def _fired(file: File, ebreak: int, printed: str) -> str:
     if isa.TAKEN[check.name](values[first], values[second]):
         found = "are equal at the ebreak behind their check" if check.name == "beq" else "pass the check before the ebreak"
         return f"qed: x{first} and x{second} {found}: a jump may have led there\n"
-    sentence = _compared("" if before is None else isa.text_of(before), first, second) if is_output else None
-    return f"qed: a check fired: {sentence or f'x{first} and x{second} differ'}\n"
+    found = fired_line(_role(memory, ebreak, first, second)) if is_output else f"fired: x{first} and x{second} differ\n"
+    return f"qed: a check {found}"
 
 
 def _run(order: Order, printed: str, shelf: Shelf) -> str:

@@ -5,12 +5,13 @@ use crate::answers::{address_behind, read};
 use crate::places::{is_output, is_word_mapped, push_place, word_at};
 use crate::sentences::sentence_of;
 use elf_types::ElfFile;
+use listing::Found;
 use qed_io::Shelf;
 use qed_model::{Change, Place};
 use qed_words::Order;
 use rv_decode::decode;
-use rv_isa::profile::{DISTANCE, LAST_ORIGINAL, PAIR_DISTANCE, SIGNATURE, SPARE, TEMPORARY};
-use rv_isa::{Class, Ins, Kind};
+use rv_isa::profile::{LAST_ORIGINAL, PAIR_DISTANCE, SIGNATURE, SPARE, TEMPORARY};
+use rv_isa::{Class, Ins, Kind, Reg};
 use std::alloc::{AllocError, Global};
 use texts::digits;
 
@@ -54,10 +55,48 @@ fn is_pair(number: u8) -> bool {
     number == 0 || (number > PAIR_DISTANCE && number <= PAIR_DISTANCE + LAST_ORIGINAL)
 }
 
-/// Whether an instruction is a check in front of an EBREAK: a comparison, or in an output a branch on pairs.
-fn is_check(ins: &Ins, is_output: bool) -> bool {
-    let is_way = is_pair(ins.rs1.number()) && is_pair(ins.rs2.number());
-    ins.kind == Kind::Beq || (is_output && is_way && ins.class() == Class::Branch)
+/// What the comparison in front of an EBREAK of an output has found where it fires: what `explain` says by the role of the word, by the
+/// words alone.
+fn found_by_words(file: &ElfFile, ebreak: u64, one: Reg, other: Reg) -> Option<Found> {
+    let nearest = before(file, ebreak, 8)?;
+    match (one.number(), other.number()) {
+        (SIGNATURE, TEMPORARY) => match nearest.kind {
+            Kind::Andi => Some(Found::Ways),
+            // The address that an AUIPC and this ADDI make.
+            Kind::Addi => {
+                let distance = before(file, ebreak, 12)?.imm.wrapping_add(nearest.imm);
+                Some(Found::Signature(ebreak.wrapping_sub(12).wrapping_add_signed(distance)))
+            }
+            _ => Some(Found::Caller),
+        },
+        (TEMPORARY, SPARE) => match nearest.kind {
+            // The look-ups of the check begin with the signature, those of a jump with its target.
+            Kind::Lui if before(file, ebreak, 40)?.rs1.number() == SIGNATURE => Some(
+                Found::LookUps,
+            ),
+            Kind::Lui => Some(Found::Ways),
+            _ => Some(Found::Word),
+        },
+        // The base of a store, with its pair by way of x31.
+        (base, SPARE) if base <= LAST_ORIGINAL => Some(Found::pair(one)),
+        (one, other) => Some(Found::Differ(one, other)),
+    }
+}
+
+/// What the check in front of an EBREAK has found where it fires; None where no check stands there. In a file that is not an output,
+/// each BEQ is a check.
+fn found(file: &ElfFile, ebreak: u64, check: &Ins) -> Option<Found> {
+    let (one, other) = (check.rs1, check.rs2);
+    if is_output(file) && is_pair(one.number()) && is_pair(other.number()) {
+        return (check.class() == Class::Branch).then_some(Found::Ways);
+    }
+    if check.kind != Kind::Beq {
+        return None;
+    }
+    if is_output(file) {
+        return found_by_words(file, ebreak, one, other);
+    }
+    Some(Found::Differ(one.number(), other.number()))
 }
 
 /// Whether a branch is taken on two numbers.
@@ -69,50 +108,6 @@ fn is_taken(kind: Kind, one: u64, other: u64) -> bool {
         Kind::Bge => one.cast_signed() >= other.cast_signed(),
         Kind::Bltu => one < other,
         _ => one >= other,
-    }
-}
-
-/// What a check of an output compares that tests no register of the test, by its registers and the instruction in front of it.
-fn compared(first: u8, second: u8, before: Option<Kind>) -> Option<&'static str> {
-    match (first, second, before) {
-        (DISTANCE, TEMPORARY, _) => Some("x14 is not the distance of the halves"),
-        (SIGNATURE, TEMPORARY, Some(Kind::Andi)) => {
-            Some("the jump by register leads elsewhere by the original than by its pair")
-        }
-        (SIGNATURE, TEMPORARY, Some(Kind::Addi)) => {
-            Some("the signature in x16 is not that of this entry")
-        }
-        (SIGNATURE, TEMPORARY, _) => {
-            Some("the check was called from another block than that of the signature")
-        }
-        (TEMPORARY, SPARE, Some(Kind::Lui)) => {
-            Some("two look-ups of the entry of the signature differ")
-        }
-        (TEMPORARY, SPARE, _) => {
-            Some("the data word at the address in x15 and its duplicate differ")
-        }
-        _ => None,
-    }
-}
-
-/// What differs at a check of two registers that fires in an output, by the instruction in front of it.
-fn difference(
-    alloc: Global,
-    first: u8,
-    second: u8,
-    before: Option<Kind>,
-) -> Result<String, AllocError> {
-    if first <= LAST_ORIGINAL && second == SPARE {
-        return format!(in alloc; "x{first} and its pair, by way of x31, differ");
-    }
-    if is_pair(first) && is_pair(second) {
-        return format!(in alloc;
-            "x{first} and x{second} decide otherwise than the originals of the branch"
-        );
-    }
-    match compared(first, second, before) {
-        Some(sentence) => String::from_str(alloc, sentence),
-        None => format!(in alloc; "x{first} and x{second} differ"),
     }
 }
 
@@ -136,28 +131,21 @@ fn printed_value(printed: &str, number: u8) -> Option<u64> {
 fn fired(alloc: Global, file: &ElfFile, printed: &str) -> Result<String, AllocError> {
     let line = printed.lines().next().unwrap_or("");
     let ebreak = address_behind(line, " at 0x").unwrap_or(0);
-    let check = match before(file, ebreak, 4) {
-        Some(ins) if is_check(&ins, is_output(file)) => ins,
-        _ => return Ok(String::new(alloc)),
+    let Some(check) = before(file, ebreak, 4) else {
+        return Ok(String::new(alloc));
     };
     let (first, second) = (check.rs1.number(), check.rs2.number());
     let values = (
         printed_value(printed, first),
         printed_value(printed, second),
     );
-    let (Some(one), Some(other)) = values else {
+    let (Some(found), (Some(one), Some(other))) = (found(file, ebreak, &check), values) else {
         return Ok(String::new(alloc));
     };
     if is_taken(check.kind, one, other) {
         return passed(alloc, check.kind, first, second);
     }
-    let text = if is_output(file) {
-        let kind = before(file, ebreak, 8).map(|ins| ins.kind);
-        difference(alloc, first, second, kind)?
-    } else {
-        format!(in alloc; "x{first} and x{second} differ")?
-    };
-    format!(in alloc; "qed: a check fired: {text}\n")
+    format!(in alloc; "qed: a check fired: {found}\n")
 }
 
 /// That the registers pass the check in front of an EBREAK that was reached.

@@ -7,6 +7,8 @@ use Rattle.elf_types.specs.Symbol.{is_code_symbol}
 use Rattle.qed_model.specs.declared.role.Role.{Role}
 use Rattle.qed_model.specs.declared.role.Role.TheVariants.{Start, Entry, Original, Mirror, Guard, Compare, Visit, Leave, LeaveGuard, Sweep, End, Stub, Tick, Check, CheckCompare, CheckVisit, LookUp, Sign}
 use Rattle.qed_model.specs.declared.role.RoleRow.{RoleRow}
+use Rattle.listing.specs.declared.found.Found.{Found}
+use Rattle.listing.specs.declared.found.Found.TheVariants.{Differ, Signature, Ways, Caller, LookUps, Word}
 use Rattle.rv_text.specs.Text.{text_of}
 use Rattle.texts.specs.Printed.{hex_digits, hex_text}
 use Rattle.texts.specs.Names.{printable}
@@ -104,37 +106,44 @@ abbrev pub symbol_text : Option ℕ → List Symbol → List ℕ
 symbol_text None symbols = []
 symbol_text (Some a) symbols = symbol_line a (nearest a None symbols)
 
--- a register and its pair
-abbrev pub pair_text : ℕ → List ℕ
-pair_text r = codes "fired: x" ++ (decimal r ++ (codes " and x" ++ (decimal (pair r) ++ codes " differ\n")))
+-- what a check of a role has found where it fires
+abbrev pub pair_found : ℕ → Found
+pair_found r = Differ r (pair r)
 
--- the signature is not that of an input address
-abbrev pub sign_text : ℕ → List ℕ
-sign_text at = codes "fired: the signature is not that of " ++ (hex_text at ++ codes "\n")
+abbrev pub found_by : Role → Option Found
+found_by (Entry at) = Some (Signature at)
+found_by (Guard r at) = Some (pair_found r)
+found_by (Compare r first last) = Some (pair_found r)
+found_by (Visit first last) = Some Word
+found_by (Leave at) = Some Ways
+found_by (LeaveGuard r at) = Some (pair_found r)
+found_by Sweep = Some Word
+found_by (End r) = Some (pair_found r)
+found_by Check = Some Caller
+found_by (CheckCompare r) = Some (pair_found r)
+found_by CheckVisit = Some Word
+found_by LookUp = Some LookUps
+found_by (Sign at) = Some (Signature at)
+found_by _ = None
 
--- what a check that fires has found
-abbrev pub found_text : Role → List ℕ
-found_text (Entry at) = sign_text at
-found_text (Guard r at) = pair_text r
-found_text (Compare r first last) = pair_text r
-found_text (LeaveGuard r at) = pair_text r
-found_text (End r) = pair_text r
-found_text (Leave at) = codes "fired: the originals and the pairs lead to different places\n"
-found_text (Visit first last) = codes "fired: a data word and its duplicate differ, its address is in x15\n"
-found_text Sweep = codes "fired: a data word and its duplicate differ, its address is in x15\n"
-found_text Check = codes "fired: the check was called from another block than that of the signature\n"
-found_text (CheckCompare r) = pair_text r
-found_text LookUp = codes "fired: two look-ups of the entry of the signature differ\n"
-found_text CheckVisit = codes "fired: a data word and its duplicate differ, its address is in x15\n"
-found_text (Sign at) = sign_text at
-found_text _ = []
+abbrev pub found_text : Found → List ℕ
+found_text (Differ r s) = codes "x" ++ (decimal r ++ (codes " and x" ++ (decimal s ++ codes " differ")))
+found_text (Signature at) = codes "the signature is not that of " ++ hex_text at
+found_text Ways = codes "the originals and the pairs lead to different places"
+found_text Caller = codes "the check was called from another block than that of the signature"
+found_text LookUps = codes "two look-ups of the entry of the signature differ"
+found_text Word = codes "a data word and its duplicate differ, its address is in x15"
+
+abbrev pub found_line : Option Found → List ℕ
+found_line None = []
+found_line (Some found) = codes "fired: " ++ (found_text found ++ codes "\n")
 
 -- EBREAK, which a check reaches where it fires (RISC-V unprivileged ISA, 2.8)
 abbrev pub ebreak : ℕ
 ebreak = 1048691
 
 abbrev pub fired_text : Role → ℕ → List ℕ
-fired_text role w = if w == ebreak then found_text role else []
+fired_text role w = if w == ebreak then found_line (found_by role) else []
 
 -- the line of a word, with its symbol and, of a check, what differed
 abbrev pub word_text : Role → ℕ → ℕ → List Symbol → List ℕ

@@ -1,6 +1,7 @@
 //! The code words of a file as text, in the order of their addresses: what the command `list` prints.
 #![tactic(auto)]
 
+mod found;
 mod home;
 mod laws;
 mod line;
@@ -8,6 +9,7 @@ mod listing;
 mod place;
 mod roles;
 
+pub use found::Found;
 pub use laws::{listings_assemble, words_assemble};
 pub use listing::list_text;
 pub use place::{nearest, role_at, word_text};

@@ -1,15 +1,13 @@
 //! One word of new code: its line, its symbol, and what differed where it is a check that fired.
-ghost use Rattle.std.specs.Prelude.{◌≡◌, ◌<◌, ◌++◌, None, IfOk, IsSome, OnOk, string_bytes};
+ghost use Rattle.std.specs.Prelude.{◌≡◌, ◌<◌, ◌++◌, None, IfOk, IsSome, OnOk};
 ghost use Rattle.std.specs.Option.{option_copied};
 ghost use Rattle.std.specs.Str.{is_utf8};
-ghost use Rattle.listing.specs.Roles.{role_at as role_at_of, rows_bytes, input_address as input_address_of, is_telling as is_telling_of, is_before as is_before_of, is_nearer as is_nearer_of, nearer as nearer_of, nearest as nearest_of, symbol_line, symbol_text, pair_text, found_text, fired_text, word_text as word_text_of};
+ghost use Rattle.listing.specs.Roles.{role_at as role_at_of, rows_bytes, input_address as input_address_of, is_telling as is_telling_of, is_before as is_before_of, is_nearer as is_nearer_of, nearer as nearer_of, nearest as nearest_of, symbol_line, symbol_text, fired_text, word_text as word_text_of};
 
+use crate::Found;
 use crate::roles::push_role_line;
 use elf_types::{Bytes, Symbol};
 use qed_model::{Role, RoleRow};
-use rv_isa::Reg;
-use rv_isa::profile::PAIR_DISTANCE;
-use rv_text::Address;
 use std::alloc::{AllocError, Global};
 use std::str;
 use texts::{MOST_OF_NAME, printable};
@@ -130,49 +128,6 @@ fn push_symbol(
     Ok(())
 }
 
-/// The line about a register that differs from its pair.
-fn pair_line(alloc: Global, register: Reg) -> Result<String, AllocError>
-    ensures { IfOk result (λ text. string_bytes text ≡ pair_text register) }
-{
-    let number = register.number();
-    let pair = if number == 0 {
-        0
-    } else {
-        number + PAIR_DISTANCE
-    };
-    format!(in alloc; "fired: x{number} and x{pair} differ\n")
-}
-
-/// What a check of a role has found where it fires.
-fn found_line(alloc: Global, role: Role) -> Result<String, AllocError>
-    ensures { IfOk result (λ text. string_bytes text ≡ found_text role) }
-{
-    match role {
-        Role::Entry(at) | Role::Sign(at) => {
-            format!(in alloc; "fired: the signature is not that of {}\n", Address(at))
-        }
-        Role::Guard(r, _) | Role::Compare(r, _, _) | Role::LeaveGuard(r, _) => pair_line(alloc, r),
-        Role::End(r) | Role::CheckCompare(r) => pair_line(alloc, r),
-        Role::Leave(_) => String::from_str(
-            alloc,
-            "fired: the originals and the pairs lead to different places\n",
-        ),
-        Role::Check => String::from_str(
-            alloc,
-            "fired: the check was called from another block than that of the signature\n",
-        ),
-        Role::LookUp => String::from_str(
-            alloc,
-            "fired: two look-ups of the entry of the signature differ\n",
-        ),
-        Role::Visit(_, _) | Role::Sweep | Role::CheckVisit => String::from_str(
-            alloc,
-            "fired: a data word and its duplicate differ, its address is in x15\n",
-        ),
-        _ => Ok(String::new(alloc)),
-    }
-}
-
 /// Appends what a check has found where it fires, if the word is the EBREAK of one.
 fn push_fired(alloc: Global, text: &mut Vec<u8>, role: Role, word: u32) -> Result<(), AllocError>
     ensures { OnOk result (text.new.items ≡ text.old.items ++ fired_text role word) }
@@ -180,8 +135,9 @@ fn push_fired(alloc: Global, text: &mut Vec<u8>, role: Role, word: u32) -> Resul
     if word != EBREAK {
         return Ok(());
     }
-    let line = found_line(alloc, role)?;
-    text.extend_from_slice(line.as_bytes())?;
+    if let Some(found) = Found::by(role) {
+        text.extend_from_slice(format!(in alloc; "fired: {found}\n")?.as_bytes())?;
+    }
     Ok(())
 }
 

@@ -13,7 +13,7 @@ use std::alloc::{AllocError, Global};
 use std::marker::Model;
 
 // A call that is to fail, and how many bytes of the new file it leaves if it is a store.
-#[derive(Clone, Copy, Debug)]
+#[derive(Clone, Copy)]
 struct FailCall {
     call: u64,
     keep: Option<u64>,
@@ -23,7 +23,7 @@ struct FailCall {
 ///
 /// Loads and stores are counted together, from 0. The number stays at 2^64 - 1 once it is there. One counter
 /// serves as the count of faults of each name, of loads and of stores.
-#[derive(Debug, Drop)]
+#[derive(Drop)]
 pub struct MemoryShelf {
     stored: StoredFiles,
     failing: Vec<FailCall>,

@@ -12,7 +12,7 @@ use std::marker::Model;
 /// Bytes in memory. The writes that `fail_call` names fail, and `take_most` bounds what each of the others takes.
 ///
 /// Writes are counted from 0. The number stays at 2^64 - 1 once it is there.
-#[derive(Debug, Drop)]
+#[derive(Drop)]
 pub struct MemorySink {
     taken: Vec<u8>,
     failing: Vec<u64>,

@@ -14,7 +14,7 @@ use std::marker::Model;
 /// Files in memory, with no fault. A name that is not there loads as no bytes.
 ///
 /// Its counts of faults are the constant 0, so by the trait's clauses no call of it is `Failed`.
-#[derive(Debug, Drop)]
+#[derive(Drop)]
 pub struct NeverShelf {
     stored: StoredFiles,
 }
@@ -82,7 +82,7 @@ impl Shelf for NeverShelf {
 }
 
 /// Bytes in memory, with no fault. Its count of faults is the constant 0.
-#[derive(Debug, Drop)]
+#[derive(Drop)]
 pub struct NeverSink {
     taken: Vec<u8>,
 }

@@ -11,7 +11,7 @@ use std::alloc::{AllocError, Global};
 use thiserror::Error;
 
 /// Why a file was not loaded.
-#[derive(Clone, Copy, Debug, Error, PartialEq, Eq, Hash)]
+#[derive(Clone, Copy, Debug, Error)]
 pub enum LoadError {
     /// The file could not be read. The count of its loads' faults rose in the call.
     #[error("the file could not be read")]
@@ -25,7 +25,7 @@ pub enum LoadError {
 }
 
 /// Why a file was not stored.
-#[derive(Clone, Copy, Debug, Error, PartialEq, Eq, Hash)]
+#[derive(Clone, Copy, Debug, Error, PartialEq, Eq)]
 pub enum StoreError {
     /// The file could not be written, or not to its end. The count of its stores' faults rose in the call.
     #[error("the file could not be written")]

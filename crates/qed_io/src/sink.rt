@@ -9,7 +9,7 @@ use std::alloc::AllocError;
 use thiserror::Error;
 
 /// Why bytes were not written.
-#[derive(Clone, Copy, Debug, Error, PartialEq, Eq, Hash)]
+#[derive(Clone, Copy, Debug, Error)]
 pub enum WriteError {
     /// The bytes could not be written. The sink's count of faults rose in the call.
     #[error("the bytes could not be written")]

@@ -10,7 +10,7 @@ use std::collections::BTreeMap;
 use std::marker::Model;
 
 // What both shelves in memory keep.
-#[derive(Debug, Drop)]
+#[derive(Drop)]
 pub struct StoredFiles {
     alloc: Global,
     by_name: BTreeMap<String, Bytes>,

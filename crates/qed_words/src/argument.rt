@@ -9,7 +9,7 @@ use crate::{Command, Key, Value};
 use texts::split_once;
 
 /// An argument, with the number of its word.
-#[derive(Clone, Copy, Debug)]
+#[derive(Clone, Copy)]
 pub enum Argument<'a> {
     Empty(u64),
     /// It begins with `-` and is no option of the command.

@@ -7,7 +7,7 @@ use std::alloc::AllocError;
 use thiserror::Error;
 
 /// Why words give no order.
-#[derive(Clone, Copy, Debug, Error, PartialEq, Eq)]
+#[derive(Clone, Copy, Debug, Error)]
 pub enum WordsError {
     /// The words ask for none: the first reason.
     #[error("the words ask for nothing: {0:?}")]

@@ -21,7 +21,7 @@ pub enum Command {
 }
 
 /// What `help` and `version` tell of.
-#[derive(Clone, Copy, Debug, PartialEq, Eq)]
+#[derive(Clone, Copy, Debug)]
 pub enum Topic {
     /// All commands.
     All,
@@ -58,7 +58,7 @@ pub enum Order {
 }
 
 /// An option of a command.
-#[derive(Clone, Copy, Debug, PartialEq, Eq)]
+#[derive(Clone, Copy, Debug)]
 pub enum Key {
     InstMin,
     InstMax,
@@ -87,7 +87,7 @@ pub enum Key {
 }
 
 /// Why words ask for nothing. A number is that of a word; word 0 names the command.
-#[derive(Clone, Copy, Debug, PartialEq, Eq)]
+#[derive(Clone, Copy, Debug)]
 pub enum Reason {
     /// There is no word.
     NoCommand,

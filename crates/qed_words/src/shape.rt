@@ -12,7 +12,7 @@ fn place(text: &[u8]) -> Option<Place>
 {
     match text {
         [] => None,
-        [b'x', register_text @ ..] => register(register_text).map(Place::Reg),
+        [b'x', register_text @ ..] => Some(Place::Reg(register(register_text)?)),
         _ => {
             let address = number(text)?;
             (address % 8 == 0).then_some(Place::Word(address))

@@ -28,7 +28,7 @@ impl fmt::Display for Ran {
 }
 
 /// What a generated test was drawn from, printed as `seed S, size N, code words W`.
-#[derive(Clone, Copy, Debug)]
+#[derive(Clone, Copy)]
 pub struct Drawn {
     pub seed: u64,
     /// In body instructions.
