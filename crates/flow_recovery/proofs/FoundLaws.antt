@@ -134,7 +134,7 @@ module _ (c : Code) (old new : Found) (value : ℕ) (middle : BTreeSet ℕ) (sam
     far f a = list_any (λ v. once c.test.now c.test.now.code 3 v a) f.pointers.items
 
 -- ---- lists of numbers
--- a list that has what is told by the elements of another
+-- a list that has the numbers of another list's elements
 pub told_any : {X : Type 0} (f : X → Bool) (g : X → ℕ) (xs : List ℕ) (ys : List X) → ((a : ℕ) → lists xs a ≡ list_any (λ y. f y && (g y == a)) ys) → (p : ℕ → Bool) → list_any p xs ≡ list_any (λ y. f y && p (g y)) ys
 told_any f g xs ys told p = both (list_any p xs) (list_any (λ y. f y && p (g y)) ys) there back where
   there : list_any p xs ≡ true → list_any (λ y. f y && p (g y)) ys ≡ true

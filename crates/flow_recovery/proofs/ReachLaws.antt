@@ -42,7 +42,7 @@ reached_found f t words symbols relas segments made s u v w x y z code by_symbol
           ∙ ap (λ m. lists s a || ((t.entry == a) || (list_any (λ c. links_to c a) t.code || (is_named_in f a || (list_any (is_in_data t.base a) t.segments || m))))) (is_made_by a at);
     }
 
--- of each word of the code it is told
+-- for each word of the code, whether it is reached
 marked_by : (words all : List CodeWord) (p q : ℕ → Bool) → ((c : CodeWord) → Among c words → Among c all) → ((a : ℕ) → stands all a ≡ true → p a ≡ q a) → map (λ (c : CodeWord). p c.at) words ≡ map (λ c. q c.at) words
 marked_by [] all p q within same = refl
 marked_by (c ∷ cs) all p q within same =

@@ -1,4 +1,4 @@
-//! What constants lead to, of which each is looked at once.
+//! What constants lead to. A constant that comes again is skipped.
 ghost use Rattle.std.specs.Prelude.{◌≡◌, ◌%◌, [], ℕ, ◌==◌, ◌&&◌, ◌||◌, Option, None, true, false, OnOk, IfOk};
 ghost use Rattle.machine.specs.Sets.{has_address};
 ghost use Rattle.tests.specs.Admission.Reached.{leads, once};
@@ -11,8 +11,8 @@ use qed_model::{CodeWord, Test};
 use std::alloc::{AllocError, Global};
 use std::collections::BTreeSet;
 
-/// How many constants are remembered: twice as many as there are sums of one number and an immediate, so that numbers that ascend
-/// have no sum twice.
+/// How many constants are remembered. A number has 4,096 sums with an immediate at most, all near it. So where numbers ascend, no
+/// sum pushes out another that comes again.
 const RECENT: u64 = 8192;
 
 /// A test, and the addresses at which the words of its code stand.
@@ -33,7 +33,7 @@ pub(crate) struct Found {
     pub(crate) recent: Vec<Option<u64>>,
 }
 
-/// Whether what a constant leads to was added, as far as is remembered.
+/// Whether a constant is remembered.
 fn is_recent(recent: &[Option<u64>], value: u64) -> bool
     ensures { result ≡ true → is_recent recent.now value ≡ true }
 {
