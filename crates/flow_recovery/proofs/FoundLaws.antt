@@ -1,5 +1,5 @@
 -- What constants lead to: one step behind another, and a constant more.
-use Rattle.std.proofs.Common.{◌≡◌, ℕ, zero, suc, Option, Some, None, ◌+◌, ◌%◌, ◌^◌, ◌<◌, ◌≤◌, ⊎_elim, Bool, true, false, List, [], ◌∷◌, ◌++◌, length, take, get_or, refl, sym, ap, ◌∙◌, subst}
+use Rattle.std.proofs.Common.{◌≡◌, ℕ, zero, suc, Option, Some, None, ◌+◌, ◌<◌, ◌≤◌, ⊎_elim, Bool, true, false, List, [], ◌∷◌, ◌++◌, length, take, get_or, refl, sym, ap, ◌∙◌, subst}
 use Rattle.std.specs.Prelude.{◌==◌, ◌||◌, ◌&&◌, slice_set}
 use Rattle.std.specs.List.{list_any}
 use Rattle.std.specs.BTreeSet.{BTreeSet}
@@ -9,16 +9,15 @@ use Rattle.std.proofs.lemmas.List.{take_all}
 use Rattle.std.proofs.lemmas.List.Folds.{list_any_more, list_any-append}
 use Rattle.machine.specs.Numbers.{is_at}
 use Rattle.machine.specs.Sets.{has_address}
-use Rattle.machine.specs.Members.{Among}
 use Rattle.machine.proofs.Lemmas.{any_passing, passing}
 use Rattle.tests.specs.declared.test.CodeWord.{CodeWord}
 use Rattle.tests.specs.declared.test.Test.{Test}
 use Rattle.machine.specs.Step.{imm}
-use Rattle.tests.specs.Admission.Reached.{leads, once, is_by_table, adds_to, sum_leads}
+use Rattle.tests.specs.Admission.Reached.{leads, once, is_by_table, adds_to}
 use Rattle.flow_recovery.specs.declared.found.Code.{Code}
 use Rattle.flow_recovery.specs.declared.found.Found.{Found}
 use Rattle.flow_recovery.specs.Sets.{lists, Gains, stands}
-use Rattle.flow_recovery.specs.Found.{is_recent, IsKept, covers, Covers, CoversBut, is_offset, sum_leads_on, sums_lead_on}
+use Rattle.flow_recovery.specs.Found.{is_recent, IsKept, covers, Covers, is_offset, sum_leads_on, sums_lead_on}
 use Rattle.flow_recovery.proofs.OrderLaws.{listed, among_listed}
 
 -- ---- tests

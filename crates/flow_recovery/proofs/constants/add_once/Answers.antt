@@ -1,5 +1,5 @@
-use Rattle.tests.specs.Admission.Reached.{sum_leads, leads, once}
-use Rattle.flow_recovery.proofs.FoundLaws.{covers_more, covers_all}
+use Rattle.tests.specs.Admission.Reached.{sum_leads}
+use Rattle.flow_recovery.proofs.FoundLaws.{covers_more}
 use Rattle.flow_recovery.proofs.constants.add_once.Goals as goal
 
 pub loop-word-preserved : goal.loop-word-preserved
