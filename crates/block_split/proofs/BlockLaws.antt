@@ -41,7 +41,7 @@ rising_pairs low (b ∷ bs) r i zero d lt le = absurd (omega (arith, lt))
 rising_pairs low (b ∷ bs) r zero (suc j) d lt le = let h = rising_at (b.start + 1) bs j d r.1 (omega (arith, le)) in omega (arith, h)
 rising_pairs low (b ∷ bs) r (suc i) (suc j) d lt le = rising_pairs (b.start + 1) bs r.1 i j d (omega (arith, lt)) (omega (arith, le))
 
-module _ (f : ElfFile) (o : Options) (leads : ℕ → Bool) (exact : (a : ℕ) → IsTrue (leads a) ↔ IsLeader f o a) (every : Bool) (when : IsTrue every ↔ ((o.entries ≡ entries.All) × HasIndirect f)) (reached : ℕ → Bool) (marks : (a : ℕ) → IsTrue (reached a) ↔ IsEntered f o a) where
+module _ (f : ElfFile) (o : Options) (leads : ℕ → Bool) (exact : (a : ℕ) → IsTrue (leads a) ↔ IsLeader f o a) (every : Bool) (when : IsTrue every ↔ ((o.entries ≡ entries.All) × HasIndirect f)) (reached : ℕ → Bool) (marks : (a : ℕ) → is_code f a ≡ true → IsTrue (reached a) ↔ IsEntered f o a) where
   -- ---- one block
   long_block : (low : ℕ) (w : CodeWord) (ws : List CodeWord) (b : CodeBlock) → Rest f low (w ∷ ws) → leads w.at ≡ true → IsLongBlock leads reached o.inst_max (w ∷ ws) b → IsLeaderBlock f o (block_of b)
   long_block low w ws b r e l =
@@ -74,8 +74,10 @@ module _ (f : ElfFile) (o : Options) (leads : ℕ → Bool) (exact : (a : ℕ) �
   }
 
   -- marked or not
-  long_marked : (w : CodeWord) (ws : List CodeWord) (b : CodeBlock) → IsLongBlock leads reached o.inst_max (w ∷ ws) b → IsMarked f o (block_of b)
-  long_marked w ws b l = (λ e. subst (IsEntered f o) (sym l.start) ((marks w.at).0 (sym l.marked ∙ e)), λ h. l.marked ∙ (marks w.at).1 (subst (IsEntered f o) l.start h))
+  long_marked : (low : ℕ) (w : CodeWord) (ws : List CodeWord) (b : CodeBlock) → Rest f low (w ∷ ws) → IsLongBlock leads reached o.inst_max (w ∷ ws) b → IsMarked f o (block_of b)
+  long_marked low w ws b r l =
+      let mark = marks w.at r.ascend.1 in
+      (λ e. subst (IsEntered f o) (sym l.start) (mark.0 (sym l.marked ∙ e)), λ h. l.marked ∙ mark.1 (subst (IsEntered f o) l.start h))
 
   short_marked : (w : CodeWord) (b : CodeBlock) → o.entries ≡ entries.All → IsShortBlock w b → IsMarked f o (block_of b)
   short_marked w b all s = (λ e. absurd (false≢true (sym s.unmarked ∙ e)), λ h. absurd (apart (sym all ∙ h.0))) where
@@ -120,7 +122,7 @@ module _ (f : ElfFile) (o : Options) (leads : ℕ → Bool) (exact : (a : ℕ) �
   step : (low : ℕ) (w : CodeWord) (ws : List CodeWord) (front back : List CodeBlock) (x y : Bool) → leads w.at ≡ x → every ≡ y → Rest f low (w ∷ ws) → Begun x y leads reached o.inst_max (w ∷ ws) front → From (w.at + 1) (map block_of back) → From low (map block_of (front ++ back))
   step low w ws front back true y ex ey r one rest =
       subst (λ bs. From low (map block_of (bs ++ back))) (sym one.is)
-      (with_block low w ws (block_of one.block) (map block_of back) r one.holds.start (inl (long_block low w ws one.block r ex one.holds)) (long_marked w ws one.block one.holds) rest)
+      (with_block low w ws (block_of one.block) (map block_of back) r one.holds.start (inl (long_block low w ws one.block r ex one.holds)) (long_marked low w ws one.block r one.holds) rest)
   step low w ws front back false true ex ey r one rest =
       subst (λ bs. From low (map block_of (bs ++ back))) (sym one.is)
       (with_block low w ws (block_of one.block) (map block_of back) r one.holds.start (inr (short_block low w ws one.block r ex (when.0 ey) one.holds)) (short_marked w one.block (when.0 ey).0 one.holds) rest)

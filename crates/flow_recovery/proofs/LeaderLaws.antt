@@ -2,6 +2,8 @@
 use Rattle.std.proofs.Common.{◌≡◌, ⊎_elim, ℕ, ◌+◌, ◌*◌, ◌%◌, ◌<◌, ◌^◌, Bool, true, is_some, List, [], map, refl, sym, ap, ◌∙◌, subst}
 use Rattle.std.specs.Prelude.{All, AllPairs, ◌==◌, ◌&&◌, ◌||◌, ◌↔◌, IsTrue, nat_lt, filter}
 use Rattle.std.specs.List.{list_any}
+use Rattle.std.specs.BTreeSet.{BTreeSet}
+use Rattle.machine.specs.Sets.{has_address}
 use Rattle.std.specs.List.Sorted.{IsPermutation, IsSorted}
 use Rattle.std.specs.Ordering.{nat_cmp}
 use Rattle.std.proofs.lemmas.List.Sorted.{IsNonDecreasingBy-from_sort, list_any-IsPermutation}
@@ -22,11 +24,11 @@ use Rattle.tests.specs.Admission.Test.{AreCodeWords, IsTestOf}
 use Rattle.machine.proofs.Lemmas.{among_of, contains_of, passing, any_passing, among-filter, among-kept}
 use Rattle.machine.specs.Members.{Among}
 use Rattle.qed_model.specs.Weave.Blocks.{IsEntered, Options}
-use Rattle.flow_recovery.specs.Sets.{lists, Adds}
+use Rattle.flow_recovery.specs.Sets.{lists, stands, Adds, AddsAt}
 use Rattle.qed_model.proofs.Lemmas.{reached_by}
 use Rattle.flow_recovery.specs.Words.{leads_to, ends_before, begins_by, is_begun, is_chosen, is_entered, is_even, of_code}
 use Rattle.flow_recovery.specs.Leaders.{AreLeaders}
-use Rattle.flow_recovery.proofs.SetLaws.{adds_first, adds_then}
+use Rattle.flow_recovery.proofs.SetLaws.{adds_first, adds_then, at_first}
 use Rattle.flow_recovery.proofs.CodeLaws.{code_word, standing_word, stands_word}
 use Rattle.flow_recovery.proofs.OrderLaws.{pairs_of, rising, listed, among_listed, filter_alike, kept_lists, of_code_is}
 
@@ -115,6 +117,16 @@ module _ (f : ElfFile) (o : Options) (t : Test) (told : IsTestOf f o t) where
         (and_from (has_jalr code) (is_reached f t a) ((indirect_is f code (has_jalr code) words refl).1 h.1) (reached_by f o t a told h.2)),
   )
 
+  -- where code is, a word stands
+  code_stands : (a : ℕ) → is_code f a ≡ true → stands code a ≡ true
+  code_stands a e = let all = map (λ (c : CodeWord). c.at) code in listed all a (among_of a all ((words.addresses.all a).1 e))
+
+  -- as a set
+  pub entered_set : (set : BTreeSet ℕ) (u v : List ℕ) → u ≡ [] → AddsAt code u v (is_entered f o t) → ((a : ℕ) → has_address set a ≡ lists v a) → (a : ℕ) → is_code f a ≡ true → IsTrue (has_address set a) ↔ IsEntered f o a
+  entered_set set u v empty adds set_is a e =
+      let is = set_is a ∙ at_first code u v (is_entered f o t) empty adds a (code_stands a e) in
+      (λ h. (entered a).0 (sym is ∙ h), λ h. is ∙ (entered a).1 h)
+
   by_reach : (a : ℕ) → is_entered f o t a ≡ true → Begins f o a
   by_reach a e = let h = (entered a).0 e in Reached h.0 h.1 h.2
 
@@ -175,10 +187,10 @@ module _ (f : ElfFile) (o : Options) (t : Test) (told : IsTestOf f o t) where
     stand a m = (words.addresses.all a).0 (contains_of a addresses m)
 
     -- of what was listed
-    leaders_are : (v leaders : List ℕ) → ((a : ℕ) → lists v a ≡ is_found a) → leaders ≡ filter (lists v) addresses → AreLeaders f o code leaders
+    leaders_are : (v leaders : List ℕ) → ((a : ℕ) → Among a addresses → lists v a ≡ is_found a) → leaders ≡ filter (lists v) addresses → AreLeaders f o code leaders
     leaders_are v leaders listed_are is =
         let kept_are : leaders ≡ filter keeps addresses =
-        is ∙ filter_alike (lists v) keeps addresses (λ a m. listed_are a ∙ ap (λ b. b && is_found a) (sym (stand a m))) in
+        is ∙ filter_alike (lists v) keeps addresses (λ a m. listed_are a m ∙ ap (λ b. b && is_found a) (sym (stand a m))) in
         record {
           exact = λ a. (
             λ e. leader a (among-kept keeps a addresses (among_listed (filter keeps addresses) a (ap (λ xs. lists xs a) (sym kept_are) ∙ e))).1,
@@ -191,12 +203,12 @@ module _ (f : ElfFile) (o : Options) (t : Test) (told : IsTestOf f o t) where
 
 -- the same of words that are those of the test
 pub leaders_found :
-    (f : ElfFile) (o : Options) (t : Test) (listed : List CodeWord) (u v leaders : List ℕ)
-    → listed ≡ t.code → IsTestOf f o t → All (λ c. c.at < 2 ^ 64) t.code
-    → ((a : ℕ) → lists u a ≡ is_begun o t.entry t.code f.symbols f.relas a) → Adds u v (is_entered f o t)
-    → (AllPairs (λ a b. a < b) (map (λ c. c.at) listed) → leaders ≡ filter (lists v) (map (λ c. c.at) listed)) → AreLeaders f o t.code leaders
-leaders_found f o t listed u v leaders code told small named entered kept =
-    leaders_are f o t told small v leaders (λ a. entered.each a ∙ ap (λ b. b || is_entered f o t a) (named a))
+    (f : ElfFile) (o : Options) (t : Test) (lent : List CodeWord) (u v leaders : List ℕ)
+    → lent ≡ t.code → IsTestOf f o t → All (λ c. c.at < 2 ^ 64) t.code
+    → ((a : ℕ) → lists u a ≡ is_begun o t.entry t.code f.symbols f.relas a) → AddsAt t.code u v (is_entered f o t)
+    → (AllPairs (λ a b. a < b) (map (λ c. c.at) lent) → leaders ≡ filter (lists v) (map (λ c. c.at) lent)) → AreLeaders f o t.code leaders
+leaders_found f o t lent u v leaders code told small named entered kept =
+    leaders_are f o t told small v leaders (λ a m. entered.each a (listed (map (λ (c : CodeWord). c.at) t.code) a m) ∙ ap (λ b. b || is_entered f o t a) (named a))
     ((subst (λ (cs : List CodeWord). AllPairs (λ a b. a < b) (map (λ c. c.at) cs) → leaders ≡ filter (lists v) (map (λ c. c.at) cs)) code kept) told.code.addresses.ascend)
 
 -- what was sorted, along the words

@@ -1,4 +1,5 @@
 pub mod SetLaws
+pub mod FoundLaws
 pub mod OrderLaws
 pub mod CodeLaws
 pub mod LeaderLaws

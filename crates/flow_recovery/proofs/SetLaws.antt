@@ -1,11 +1,12 @@
 -- What is added to a list of addresses: by one step behind another, and one element of another list more at a time.
-use Rattle.std.proofs.Common.{◌≡◌, ℕ, ◌+◌, ◌<◌, ◌≤◌, Bool, List, [], length, take, get_or, sym, ap, ◌∙◌}
+use Rattle.std.proofs.Common.{◌≡◌, ℕ, ◌+◌, ◌<◌, ◌≤◌, Bool, true, List, [], length, take, get_or, sym, ap, ◌∙◌}
 use Rattle.std.specs.Prelude.{◌||◌}
 use Rattle.std.specs.List.{list_any}
+use Rattle.tests.specs.declared.test.CodeWord.{CodeWord}
 use Rattle.std.proofs.Math.Bool.{or_assoc}
 use Rattle.std.proofs.lemmas.List.{take_all}
 use Rattle.std.proofs.lemmas.List.Folds.{list_any_more}
-use Rattle.flow_recovery.specs.Sets.{lists, Adds}
+use Rattle.flow_recovery.specs.Sets.{lists, stands, Adds, AddsAt}
 
 -- ---- one step behind another
 pub adds_then : (s t u : List ℕ) (p q : ℕ → Bool) → Adds s t p → Adds t u q → Adds s u (λ a. p a || q a)
@@ -19,9 +20,13 @@ adds_more p xs k x s t u lt is h g = record {
       ∙ ap (λ b. lists s a || b) (ap (λ y. list_any (λ z. p z a) (take k xs) || p y a) is ∙ sym (list_any_more (λ y. p y a) xs k x lt));
 }
 
--- the same to an empty list
+-- to an empty list
 pub adds_first : (s t : List ℕ) (p : ℕ → Bool) → s ≡ [] → Adds s t p → (a : ℕ) → lists t a ≡ p a
 adds_first s t p empty h a = h.each a ∙ ap (λ xs. lists xs a || p a) empty
+
+-- and where only addresses count at which words stand
+pub at_first : (words : List CodeWord) (s t : List ℕ) (p : ℕ → Bool) → s ≡ [] → AddsAt words s t p → (a : ℕ) → stands words a ≡ true → lists t a ≡ p a
+at_first words s t p empty h a at = h.each a at ∙ ap (λ xs. lists xs a || p a) empty
 
 -- and behind it all elements of a list
 pub adds_all :

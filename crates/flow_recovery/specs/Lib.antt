@@ -1,3 +1,4 @@
 pub mod Sets
+pub mod Found
 pub mod Words
 pub mod Leaders

@@ -1,6 +1,9 @@
 -- Sets of addresses.
-use Rattle.std.specs.Prelude.{◌≡◌, ℕ, ◌==◌, ◌||◌, Bool, false, if◌then◌else◌, nat_lt, List, [], ◌∷◌}
+use Rattle.std.specs.Prelude.{◌≡◌, ℕ, ◌==◌, ◌||◌, Bool, true, false, if◌then◌else◌, nat_lt, List, [], ◌∷◌, map}
 use Rattle.std.specs.List.{list_any}
+use Rattle.std.specs.BTreeSet.{BTreeSet}
+use Rattle.machine.specs.Sets.{has_address}
+use Rattle.tests.specs.declared.test.CodeWord.{CodeWord}
 
 -- whether the list has it
 abbrev pub lists : List ℕ → ℕ → Bool
@@ -9,6 +12,18 @@ lists addresses a = list_any (λ b. b == a) addresses
 -- the new list has what the old one has, and what passes the test
 pub record Adds (old new : List ℕ) (test : ℕ → Bool) : Type 0 where
   pub each : (a : ℕ) → lists new a ≡ (lists old a || test a)
+
+-- a word stands at the address
+abbrev pub stands : List CodeWord → ℕ → Bool
+stands words a = lists (map (λ c. c.at) words) a
+
+-- the new list has what the old one has, and what passes the test, of the addresses at which words stand
+pub record AddsAt (words : List CodeWord) (old new : List ℕ) (test : ℕ → Bool) : Type 0 where
+  pub each : (a : ℕ) → stands words a ≡ true → lists new a ≡ (lists old a || test a)
+
+-- the new set has what the old one has, and what passes the test
+pub record Gains (old new : BTreeSet ℕ) (test : ℕ → Bool) : Type 0 where
+  pub each : (a : ℕ) → has_address new a ≡ (has_address old a || test a)
 
 -- the new list has what the old one has, and what passes the test, where some of that is to come
 pub record AddsBut (old new : List ℕ) (test rest : ℕ → Bool) : Type 0 where
@@ -23,3 +38,7 @@ from_on a (b ∷ bs) = if nat_lt b a then from_on a bs else b ∷ bs
 abbrev pub is_first : ℕ → List ℕ → Bool
 is_first a [] = false
 is_first a (b ∷ bs) = b == a
+
+-- the new set with what is to come has what the old one has, and what passes the test
+pub record GainsBut (old new : BTreeSet ℕ) (test rest : ℕ → Bool) : Type 0 where
+  pub each : (a : ℕ) → (has_address new a || rest a) ≡ (has_address old a || test a)

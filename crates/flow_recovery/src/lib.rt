@@ -3,7 +3,9 @@
 
 mod classes;
 mod constants;
+mod found;
 mod named;
+mod pointers;
 mod reach;
 mod recovery;
 mod sets;

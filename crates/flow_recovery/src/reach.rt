@@ -1,14 +1,14 @@
 //! Which words of the code are reached.
-ghost use Rattle.std.specs.Prelude.{◌≡◌, ℕ, map, OnOk, IfOk};
+ghost use Rattle.std.specs.Prelude.{◌≡◌, ℕ, true, map, OnOk, IfOk};
 ghost use Rattle.std.specs.List.{list_any};
 ghost use Rattle.machine.specs.Sets.{has_address};
-ghost use Rattle.flow_recovery.specs.Sets.{lists, Adds};
+ghost use Rattle.flow_recovery.specs.Sets.{lists, stands, Adds, AddsAt};
 ghost use Rattle.tests.specs.Admission.Reached.{links_to, is_reached};
 
 use crate::classes::is_jump;
-use crate::constants::add_constants;
 use crate::named::{add_relocations, add_symbols};
-use crate::sets::{add, set_of};
+use crate::pointers::made;
+use crate::sets::{add, add_all, set_of};
 use crate::stored::add_data;
 use elf_types::ElfFile;
 use qed_model::{CodeWord, Test};
@@ -42,7 +42,7 @@ pub(crate) fn add_reached(
     test: &Test,
     file: &ElfFile,
 ) -> Result<(), AllocError>
-    ensures { OnOk result (Adds list.old.items list.new.items (is_reached file.now test.now)) }
+    ensures { OnOk result (AddsAt test.now.code list.old.items list.new.items (is_reached file.now test.now)) }
 {
     let (symbols, relas) = (file.symbols.as_slice(), file.relas.as_slice());
     add(list, test.entry)?;
@@ -50,14 +50,15 @@ pub(crate) fn add_reached(
     add_symbols(list, symbols)?;
     add_relocations(list, symbols, relas)?;
     add_data(list, test.base, test.segments.as_slice())?;
-    add_constants(list, test)?;
+    let made = made(*list.allocator(), test)?;
+    add_all(list, &made)?;
     Ok(())
 }
 
 /// These addresses.
-#[tactic(auto, using(crate::proofs::SetLaws::adds_first))]
+#[tactic(auto, using(crate::proofs::SetLaws::at_first))]
 fn listed(alloc: Global, test: &Test, file: &ElfFile) -> Result<Vec<u64>, AllocError>
-    ensures { IfOk result (λ list. (a : ℕ) → lists list.items a ≡ is_reached file.now test.now a) }
+    ensures { IfOk result (λ list. (a : ℕ) → stands test.now.code a ≡ true → lists list.items a ≡ is_reached file.now test.now a) }
 {
     let mut list = Vec::new(alloc);
     add_reached(&mut list, test, file)?;

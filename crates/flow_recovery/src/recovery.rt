@@ -1,13 +1,14 @@
 //! The leaders of a test.
-ghost use Rattle.std.specs.Prelude.{◌≡◌, ℕ, ◌<◌, ◌^◌, ◌↔◌, All, AllPairs, OnOk, IfOk, IsTrue, filter, map};
+ghost use Rattle.std.specs.Prelude.{◌≡◌, ℕ, ◌<◌, ◌^◌, ◌↔◌, true, All, AllPairs, OnOk, IfOk, IsTrue, filter, map};
 ghost use Rattle.std.specs.List.{list_any};
 ghost use Rattle.rv_isa.specs.Kind.{class_of};
 ghost use Rattle.elf_types.specs.declared.file.ElfFile.{ElfFile};
+ghost use Rattle.tests.specs.Admission.CodeWords.{is_code};
 ghost use Rattle.tests.specs.Admission.Leaders.{is_indirect, HasIndirect};
 ghost use Rattle.tests.specs.Admission.Test.{AreCodeWords, IsTestOf};
 ghost use Rattle.qed_model.specs.Weave.Blocks.{IsEntered};
 ghost use Rattle.machine.specs.Sets.{has_address};
-ghost use Rattle.flow_recovery.specs.Sets.{lists, Adds, from_on, is_first};
+ghost use Rattle.flow_recovery.specs.Sets.{lists, Adds, AddsAt, from_on, is_first};
 ghost use Rattle.flow_recovery.specs.Words.{is_begun, is_chosen, is_entered, of_code};
 ghost use Rattle.flow_recovery.specs.Leaders.{AreLeaders};
 
@@ -95,7 +96,7 @@ fn add_entered(
     file: &ElfFile,
     options: &Options,
 ) -> Result<(), AllocError>
-    ensures { OnOk result (Adds list.old.items list.new.items (is_entered file.now options.now test.now)) }
+    ensures { OnOk result (AddsAt test.now.code list.old.items list.new.items (is_entered file.now options.now test.now)) }
 {
     if is_chosen(options.entries) && has_indirect(test) {
         add_reached(list, test, file)?;
@@ -103,8 +104,9 @@ fn add_entered(
     Ok(())
 }
 
-/// The addresses to which a JALR of the file that `test` is may lead, where such addresses alone have entries; else none.
-#[tactic(auto, using(crate::proofs::LeaderLaws::entered, crate::proofs::SetLaws::adds_first))]
+/// The code addresses to which a JALR of the file that `test` is may lead, where such addresses alone have entries; else none. What
+/// it has of other addresses is not said.
+#[tactic(auto, using(crate::proofs::LeaderLaws::entered, crate::proofs::SetLaws::at_first))]
 pub fn entered(
     alloc: Global,
     test: &Test,
@@ -112,7 +114,7 @@ pub fn entered(
     options: &Options,
 ) -> Result<BTreeSet<u64>, AllocError>
     requires { IsTestOf file.now options.now test.now }
-    ensures { IfOk result (λ set. (a : ℕ) → IsTrue (has_address set a) ↔ IsEntered file.now options.now a) }
+    ensures { IfOk result (λ set. (a : ℕ) → is_code file.now a ≡ true → IsTrue (has_address set a) ↔ IsEntered file.now options.now a) }
 {
     let mut list = Vec::new(alloc);
     add_entered(&mut list, test, file, options)?;

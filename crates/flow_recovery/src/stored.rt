@@ -5,15 +5,16 @@ ghost use Rattle.machine.specs.Numbers.{words_of};
 ghost use Rattle.machine.specs.Values.{word as extended};
 ghost use Rattle.tests.specs.Admission.DataRanges.{range_of};
 ghost use Rattle.tests.specs.Admission.Terms.{is_in_any, is_code_address};
-ghost use Rattle.flow_recovery.specs.Sets.{Adds};
+ghost use Rattle.flow_recovery.specs.Sets.{Adds, Gains};
 ghost use Rattle.tests.specs.Admission.Reached.{offset_of, is_low_half, is_in_data, is_in_table, bytes_from, is_by_table};
 
-use crate::sets::add;
+use crate::sets::{add, insert};
 use byteorder::{ByteOrder, LittleEndian};
 use elf_types::Segment;
 use qed_model::limits::MAX_IMAGE_SPAN;
 use qed_model::{Range, Test};
 use std::alloc::AllocError;
+use std::collections::BTreeSet;
 use tests::{is_code_address, rest_of};
 
 /// How far from a base on the first address is that has the word as its low 32 bits.
@@ -76,12 +77,12 @@ fn distance_from(base: u64, word: u64) -> u64
 
 /// Adds where a table of distances leads, as long as it leads to code.
 fn add_distances(
-    list: &mut Vec<u64>,
+    set: &mut BTreeSet<u64>,
     ranges: &[Range],
     base: u64,
     bytes: &[u8],
 ) -> Result<(), AllocError>
-    ensures { OnOk result (Adds list.old.items list.new.items (λ a. is_in_table (map range_of ranges.now) base a (words_of bytes.now))) }
+    ensures { OnOk result (Gains set.old set.new (λ a. is_in_table (map range_of ranges.now) base a (words_of bytes.now))) }
 {
     let mut left = bytes;
     while let [_, _, _, _, rest @ ..] = left {
@@ -89,7 +90,7 @@ fn add_distances(
         if !is_code_address(ranges, target) {
             return Ok(());
         }
-        add(list, target)?;
+        insert(set, target)?;
         left = rest;
     }
     Ok(())
@@ -108,23 +109,23 @@ fn bytes_from(segment: &Segment, address: u64) -> &[u8]
 
 /// Adds where a table in a segment leads.
 fn add_table(
-    list: &mut Vec<u64>,
+    set: &mut BTreeSet<u64>,
     test: &Test,
     base: u64,
     segment: &Segment,
 ) -> Result<(), AllocError>
-    ensures { OnOk result (Adds list.old.items list.new.items (λ a. is_by_table test.now base a segment.now)) }
+    ensures { OnOk result (Gains set.old set.new (λ a. is_by_table test.now base a segment.now)) }
 {
     let bytes = bytes_from(segment, base);
-    add_distances(list, test.ranges.as_slice(), base, bytes)
+    add_distances(set, test.ranges.as_slice(), base, bytes)
 }
 
 /// Adds where tables of distances from a base lead.
-pub fn add_tables(list: &mut Vec<u64>, test: &Test, base: u64) -> Result<(), AllocError>
-    ensures { OnOk result (Adds list.old.items list.new.items (λ a. list_any (is_by_table test.now base a) test.now.segments)) }
+pub fn add_tables(set: &mut BTreeSet<u64>, test: &Test, base: u64) -> Result<(), AllocError>
+    ensures { OnOk result (Gains set.old set.new (λ a. list_any (is_by_table test.now base a) test.now.segments)) }
 {
     for segment in test.segments.as_slice() {
-        add_table(list, test, base, segment)?;
+        add_table(set, test, base, segment)?;
     }
     Ok(())
 }

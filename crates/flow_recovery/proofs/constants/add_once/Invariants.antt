@@ -1,9 +1,9 @@
 use Rattle.std.proofs.Common.{take}
 use Rattle.std.specs.List.{list_any}
-use Rattle.flow_recovery.specs.Sets.{Adds}
+use Rattle.flow_recovery.specs.Found.{Covers}
 use Rattle.tests.specs.Admission.Reached.{sum_leads}
 use Rattle.flow_recovery.proofs.constants.add_once.Given as goal
 
 -- those so far were added
 abbrev pub invariant-loop-word : goal.invariant-loop-word
-invariant-loop-word l = Adds l.initial.list.items l.list.items (λ a. list_any (sum_leads l.test l.known.register l.known.value a) (take l.word-index l.known.near.now))
+invariant-loop-word l = Covers l.code l.initial.found l.found (λ a. list_any (sum_leads l.code.test.now l.known.register l.known.value a) (take l.word-index l.known.near.now))
