@@ -2,7 +2,7 @@
 ghost use Rattle.std.specs.Prelude.{◌≡◌, ◌+◌, ◌*◌, ◌≤◌, ◌<◌, ◌^◌};
 ghost use Rattle.std.specs.Option.{SomeIff};
 ghost use Rattle.qed_model.specs.declared.steps.TheConstants.{LEAN_LEAVE_STEPS};
-ghost use Rattle.qed_model.specs.Weave.LeanBounds.{cost_of, entry_steps as entry_steps_of, call_steps as call_steps_of, check_bound, period as period_of, bounds_of};
+ghost use Rattle.qed_model.specs.Weave.LeanBounds.{cost_of, entry_steps as entry_steps_of, call_steps as call_steps_of, check_bound, period as period_of, lean_bounds_of};
 ghost use Rattle.qed_model.specs.Weave.Pieces.{piece_count};
 ghost use Rattle.bound_calc.specs.Fitting.{fitting, AreSmall};
 
@@ -58,7 +58,7 @@ fn checks(words: u64, round: u64) -> u128
 /// 2^64 or above.
 pub fn lean_bounds(shape: &Shape, every: u64) -> Option<Bounds>
     requires { 1 ≤ shape.now.round }
-    ensures { SomeIff result (AreSmall (bounds_of shape.now every)) (bounds_of shape.now every) }
+    ensures { SomeIff result (AreSmall (lean_bounds_of shape.now every)) (lean_bounds_of shape.now every) }
 {
     let check = check(shape)?;
     let piece = piece(shape, check)?;

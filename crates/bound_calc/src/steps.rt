@@ -2,7 +2,7 @@
 //! it.
 ghost use Rattle.std.specs.Prelude.{◌≡◌, ◌+◌, ◌-◌, ◌*◌, ◌/◌, ◌≤◌, ◌<◌, ◌^◌};
 ghost use Rattle.std.specs.Option.{SomeIff};
-ghost use Rattle.qed_model.specs.Weave.Bounds.{visit_bound, end_bound, start_steps, piece_steps, bounds_of};
+ghost use Rattle.qed_model.specs.Weave.Bounds.{visit_bound, end_bound, start_steps, longest_piece, bounds_of};
 ghost use Rattle.bound_calc.specs.Fitting.{fitting, AreSmall};
 
 use qed_model::steps::instruction_steps;
@@ -38,7 +38,7 @@ pub(crate) fn round(shape: &Shape) -> Option<u64>
 /// The longest piece, with its entry and its leave.
 fn piece(shape: &Shape) -> Option<u64>
     requires { 1 ≤ shape.now.round }
-    ensures { result ≡ fitting (piece_steps shape.now) }
+    ensures { result ≡ fitting (longest_piece shape.now) }
 {
     let cost = u128::from(instruction_steps(shape.diverse));
     let round = round(shape)?;

@@ -2,7 +2,7 @@
 use Rattle.std.proofs.Common.{ℕ, zero, suc, ◌≤◌, Bool, Option, Some, None, List, inl, inr, refl, sym, ap, ◌∙◌, subst, arith}
 use Rattle.std.specs.Prelude.{IsSome, Ok}
 use Rattle.tests.specs.declared.options.Options.{Options}
-use Rattle.qed_model.specs.Weave.Bounds.{word_bound, start_steps, piece_steps}
+use Rattle.qed_model.specs.Weave.Bounds.{word_bound, start_steps, longest_piece}
 use Rattle.tests.specs.Admission.Places.{image_of}
 use Rattle.qed_model.specs.Weave.Sequences.{Block}
 use Rattle.qed_model.specs.Weave.Woven.{is_far_code, code_as, new_code, IsToldOf}
@@ -22,7 +22,7 @@ some_lean_bound land zero round ends period h = absurd (omega arith)
 some_lean_bound land (suc n) round ends period h = refl
 
 some_word : (l : Option ℕ) (f : ElfFile) (o : Options) (blocks : List Block) → 1 ≤ word_count (data_ranges (image_of f)) → IsSome (code_as l f o blocks).bounds.word
-some_word None f o blocks h = let shape = shape_of f o (is_far_code f o blocks) in some_bound (word_count (data_ranges (image_of f))) shape.round (start_steps shape) (piece_steps shape) h
+some_word None f o blocks h = let shape = shape_of f o (is_far_code f o blocks) in some_bound (word_count (data_ranges (image_of f))) shape.round (start_steps shape) (longest_piece shape) h
 some_word (Some every) f o blocks h = some_lean_bound o.land (word_count (data_ranges (image_of f))) _ _ _ h
 
 pub has_words : (f : ElfFile) (o : Options) (blocks : List Block) (plan : Plan) → IsToldOf (new_code f o blocks) f o blocks plan → HasWords plan

@@ -16,7 +16,7 @@ use Rattle.qed_model.specs.Weave.Placed.{sum_of_sizes, rows_from, placed, leads_
 use Rattle.qed_model.specs.Weave.Sequences.{Form, Block, stub}
 use Rattle.qed_model.specs.Weave.Bounds.{cost_of}
 use Rattle.qed_model.specs.Weave.Forms.{mirror_of, form_of, shape_of}
-use Rattle.qed_model.specs.Weave.LeanBounds.{bounds_of}
+use Rattle.qed_model.specs.Weave.LeanBounds.{lean_bounds_of}
 use Rattle.qed_model.specs.Weave.LeanCode.{Lean, lean_in, lean_of, lean_items, items_with as file_items, start_at, worded}
 use Rattle.qed_model.specs.Weave.LeanParts.{worded_parts, file_parts}
 use Rattle.qed_model.specs.Weave.Parts.{code_parts}
@@ -251,5 +251,5 @@ module _ (f : ElfFile) (o : Options) (every : ℕ) (t : Test) (blocks : List Cod
                   parts = ap (λ p. code_parts p t.distance t.entry bs) (made ∙ ap (parts_with t o every bs) known) ∙ parts_whole own;
                   far = refl;
                   table = refl;
-                  bounds = ap (bounds_of (shape_of f o false)) steps;
+                  bounds = ap (lean_bounds_of (shape_of f o false)) steps;
                 }

@@ -4,7 +4,7 @@ use Rattle.qed_model.specs.Weave.Blocks.{begins_at}
 use Rattle.qed_model.specs.Weave.Bounds.{cost_of}
 use Rattle.qed_model.specs.Weave.Code.{Sequences}
 use Rattle.qed_model.specs.Weave.Parts.{Parts}
-use Rattle.qed_model.specs.Weave.LeanBounds.{bounds_of}
+use Rattle.qed_model.specs.Weave.LeanBounds.{lean_bounds_of}
 use Rattle.qed_model.specs.Weave.LeanParts.{worded_parts}
 use Rattle.qed_model.specs.Weave.Placed.{leads_to}
 use Rattle.qed_model.specs.Weave.Sequences.{Form, Block}
@@ -23,7 +23,7 @@ abbrev pub form : LeanWeaver → Form
 form w = record { spans = spans_of w.visits.span; round = w.visits.round; far = false; sweep = w.sweeps; mirror = mirror_of w.diverse; cost = cost_of w.diverse }
 
 abbrev pub kind : LeanWeaver → CodeKind
-kind w = record { far = false; table = true; bounds = λ s. bounds_of s w.every }
+kind w = record { far = false; table = true; bounds = λ s. lean_bounds_of s w.every }
 
 abbrev pub blocks_in : LeanWeaver → List Block
 blocks_in w = map block_of w.blocks.now

@@ -14,7 +14,7 @@ use Rattle.machine.specs.Loading.{load_segments, loaded_file, ElfFile, Segment}
 use Rattle.machine.specs.Program.{Program, AreStartRegs, start, zeros}
 use Rattle.qed_model.specs.Promise.Kept.{any_address, is_trapped}
 use Rattle.qed_model.specs.Promise.OwnSteps.{arrival, KeptInStep}
-use Rattle.qed_model.specs.Weave.Bounds.{start_bound, start_steps, piece_bound, piece_steps}
+use Rattle.qed_model.specs.Weave.Bounds.{start_bound, start_steps, piece_bound, longest_piece}
 use Rattle.test_gen.specs.Ends.{EndsAfter, EndsWithin, run_steps}
 use Rattle.test_gen.specs.Outputs.{HasSmallCode, IsWeavable, most_output_steps}
 use Rattle.test_gen.proofs.Ending.{file_ends}
@@ -264,13 +264,13 @@ module _ (seed n x y z : ℕ) (some : 1 ≤ n) (few : n ≤ 1875) where
     abbrev shape_here : Shape
     shape_here = shape_of f default_options far
 
-    file_kept : KeptInStep (loaded_file f) output any_address (half_of default_options.half (image_of f)) (start_steps shape_here) (piece_steps shape_here)
+    file_kept : KeptInStep (loaded_file f) output any_address (half_of default_options.half (image_of f)) (start_steps shape_here) (longest_piece shape_here)
     file_kept = kept.test_kept f default_options sound loads allowed bs are words new short any_address (any_reached f default_options refl)
 
     start_few : start_steps shape_here ≤ 33
     start_few = elim far as (λ b. start_bound b false 2 0 ≤ 33) [ true ↦ omega arith | false ↦ omega arith ]
 
-    piece_is : piece_steps shape_here ≡ 123
+    piece_is : longest_piece shape_here ≡ 123
     piece_is =
         let size = length-data_bytes in
         let one : 1 ≤ word_count (table_range ∷ data_range ∷ []) = omega (arith, size) in
@@ -286,9 +286,9 @@ module _ (seed n x y z : ℕ) (some : 1 ≤ n) (few : n ≤ 1875) where
         let steady = (steady_any (loaded_file f) (run_steps n)).1 (ap is_trapped input_ends.ends) in
         let within = kept.within (run_steps n) in
         let count = run_steps n + 1 in
-        let each_piece : count * piece_steps shape_here ≡ count * 123 = ap (λ p. count * p) piece_is in
+        let each_piece : count * longest_piece shape_here ≡ count * 123 = ap (λ p. count * p) piece_is in
         record {
-          steps = arrival (loaded_file f) output (start_steps shape_here) (piece_steps shape_here) regs (run_steps n);
+          steps = arrival (loaded_file f) output (start_steps shape_here) (longest_piece shape_here) regs (run_steps n);
           within = omega (arith, within, start_few, each_piece, few);
           ends = (kept.ends (run_steps n) steady).1 input_ends.ends;
         }

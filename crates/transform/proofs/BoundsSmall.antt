@@ -68,7 +68,7 @@ lean_word_small land (suc n) round ends period w r s p =
     omega (arith, t, s, entry_small land)
 
 pub lean_shape_small :
-    (s : Shape) (every : ℕ) → s.inst_max ≤ 1024 → 1 ≤ s.round → s.round ≤ 1024 → s.ranges ≤ 67108864 → s.words ≤ 67108864 → every ≤ 2047 → AreSmall (lean.bounds_of s every)
+    (s : Shape) (every : ℕ) → s.inst_max ≤ 1024 → 1 ≤ s.round → s.round ≤ 1024 → s.ranges ≤ 67108864 → s.words ≤ 67108864 → every ≤ 2047 → AreSmall (lean.lean_bounds_of s every)
 lean_shape_small s every most some round ranges words few =
     let check = check_small s.words s.ranges s.round ranges round in
     let ends = end_small s.sweep s.ranges s.words ranges words in

@@ -40,14 +40,14 @@ cost_of diverse = cond diverse DIVERSE_STEPS INSTRUCTION_STEPS
 abbrev pub start_steps : Shape → ℕ
 start_steps s = start_bound s.far s.sweep s.ranges s.words
 
-abbrev pub piece_steps : Shape → ℕ
-piece_steps s = piece_bound (cost_of s.diverse) s.inst_max s.words s.ranges s.round
+abbrev pub longest_piece : Shape → ℕ
+longest_piece s = piece_bound (cost_of s.diverse) s.inst_max s.words s.ranges s.round
 
 -- all four bounds
 abbrev pub bounds_of : Shape → Bounds
 bounds_of s = record {
-  piece = piece_steps s;
-  register = register_bound (start_steps s) (piece_steps s);
-  word = word_bound s.words s.round (start_steps s) (piece_steps s);
+  piece = longest_piece s;
+  register = register_bound (start_steps s) (longest_piece s);
+  word = word_bound s.words s.round (start_steps s) (longest_piece s);
   start = start_steps s;
 }

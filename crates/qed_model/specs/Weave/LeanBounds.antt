@@ -39,8 +39,8 @@ word_bound land zero round ends period = None
 word_bound land (suc n) round ends period = Some (53 + entry_steps land + call_steps land + ends + (piece_count round (suc n) + 1) * period)
 
 -- ---- over a shape, and of a file
-abbrev pub bounds_of : Shape → ℕ → Bounds
-bounds_of s every =
+abbrev pub lean_bounds_of : Shape → ℕ → Bounds
+lean_bounds_of s every =
     let ends = end_bound s.sweep s.ranges s.words in
     let check = check_bound s.words s.ranges s.round in
     record {
@@ -51,4 +51,4 @@ bounds_of s every =
     }
 
 abbrev pub lean_bounds : ElfFile → Options → ℕ → Bounds
-lean_bounds f o every = bounds_of (shape_of f o false) every
+lean_bounds f o every = lean_bounds_of (shape_of f o false) every

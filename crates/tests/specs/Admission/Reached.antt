@@ -30,8 +30,8 @@ links_to c a = is_jump (class_of c.ins.kind) && (not (c.ins.rd == 0) && ((c.at +
 
 -- ---- words of the image
 -- the words of the segment's bytes in the file that stand at multiples of 4
-abbrev pub data_words : Segment → List ℕ
-data_words s = words_of (drop ((4 - s.address % 4) % 4) s.bytes)
+abbrev pub aligned_words : Segment → List ℕ
+aligned_words s = words_of (drop ((4 - s.address % 4) % 4) s.bytes)
 
 -- how far from a base on the first address is that has a word as its low 32 bits
 abbrev pub offset_of : ℕ → ℕ → ℕ
@@ -43,7 +43,7 @@ is_low_half base a w = nat_lt (offset_of base w) MAX_IMAGE_SPAN && ((base + offs
 
 -- a word has the low half of the address, so the whole may stand there in 4 bytes or in 8
 abbrev pub is_in_data : ℕ → ℕ → Segment → Bool
-is_in_data base a s = list_any (is_low_half base a) (data_words s)
+is_in_data base a s = list_any (is_low_half base a) (aligned_words s)
 
 -- ---- tables of distances
 -- words are added, sign-extended, to the base, as long as they lead to code
