@@ -110,8 +110,7 @@ class Lean:
             from_behind.update(leads)
             by_register = room if block.end is not None and block.end.name == "jalr" else 0
             most = self.block_steps(block) + max((ticks[to].most for to in leads if to in ticks and not ticks[to].stands), default=by_register)
-            ticks[block.start] = Tick(block.start == self.test.file.entry or block.start in from_behind
-                                      or most > room, most)
+            ticks[block.start] = Tick(block.start == self.test.file.entry or block.start in from_behind or most > room, most)
         return ticks
 
     def block_steps(self, block: Block) -> int:
