@@ -6,7 +6,7 @@ from itertools import groupby
 from typing import Dict, List, NamedTuple, Set, Tuple
 
 import isa
-from admission import Block, Options, Test, reached
+from admission import Block, Options, Test
 from assembler import words_of
 from isa import EBREAK, Instruction, encode
 from machine import WORD
@@ -98,19 +98,19 @@ class Lean:
     def __init__(self, test: Test, options: Options, blocks: List[Block]) -> None:
         self.test, self.options, self.blocks = test, options, blocks
         self.starts = {block.start for block in blocks}
-        self.ticks = self.ticks_of(reached(test) if options.entries == "reached" and test.has_indirect else set())
+        self.ticks = self.ticks_of()
 
-    def ticks_of(self, by_register: Set[int]) -> Dict[int, Tick]:
-        """The ticks by blocks, where jumps by register lead to these addresses ("Ticks")."""
+    def ticks_of(self) -> Dict[int, Tick]:
+        """The ticks by blocks ("Ticks")."""
         room = min(max(0, self.options.lean - few_steps(self.options) - 1), MOST_OWED)
         ticks: Dict[int, Tick] = {}
         from_behind: Set[int] = set()
         for block in reversed(self.blocks):
             leads = goes_on(block)
             from_behind.update(leads)
-            most = self.block_steps(block) + max((ticks[to].most for to in leads if to in ticks and not ticks[to].stands), default=0)
-            ticks[block.start] = Tick(block.start in by_register or block.start == self.test.file.entry or block.start in from_behind
-                                      or most > room, most)
+            by_register = room if block.end is not None and block.end.name == "jalr" else 0
+            most = self.block_steps(block) + max((ticks[to].most for to in leads if to in ticks and not ticks[to].stands), default=by_register)
+            ticks[block.start] = Tick(block.start == self.test.file.entry or block.start in from_behind or most > room, most)
         return ticks
 
     def block_steps(self, block: Block) -> int:
