@@ -18,20 +18,20 @@ use Rattle.lean.specs.Counts.{ticks_of, most_of, ticks_in, most_in, owed_in, Add
 
 -- ---- one block more
 module _ (c : Counting) (bs : List Block) (counts : BTreeMap ℕ Counted) (goals : BTreeSet ℕ) (are : AreCounts c bs counts goals) where
-  owed_there : (e : End) (at : ℕ) → owed_behind (owed_in counts) e at ≡ owed_behind (owed_at (tick_rows c bs)) e at
-  owed_there e at = λ i. owed_behind (λ a. cond (are.ticks a i) 0 (are.most a i)) e at
+  owed_there : (e : End) (at : ℕ) → owed_behind c.room (owed_in counts) e at ≡ owed_behind c.room (owed_at (tick_rows c bs)) e at
+  owed_there e at = λ i. owed_behind c.room (λ a. cond (are.ticks a i) 0 (are.most a i)) e at
 
   -- the sum of its steps and of those that it owes
   pub sum_is :
-      (b : Block) (steps owes most : ℕ) → steps ≡ block_steps c.diverse c.land c.leader b → steps < 2048 → c.room ≤ 48 → owes ≡ owed_behind (owed_in counts) b.end (end_at b)
-      → (steps + owes < 2 ^ 64 → most ≡ steps + owes) → most ≡ block_steps c.diverse c.land c.leader b + owed_behind (owed_at (tick_rows c bs)) b.end (end_at b)
+      (b : Block) (steps owes most : ℕ) → steps ≡ block_steps c.diverse c.land c.leader b → steps < 2048 → c.room ≤ 48 → owes ≡ owed_behind c.room (owed_in counts) b.end (end_at b)
+      → (steps + owes < 2 ^ 64 → most ≡ steps + owes) → most ≡ block_steps c.diverse c.land c.leader b + owed_behind c.room (owed_at (tick_rows c bs)) b.end (end_at b)
   sum_is b steps owes most e few room o sum =
       let there = owed_there b.end (end_at b) in
       let small = few_behind c bs b.end (end_at b) in
       let is = sum (omega (arith, few, room, o, there, small)) in
       omega (arith, is, e, o, there)
 
-  module _ (b : Block) (most : ℕ) (behind : Bool) (added : BTreeMap ℕ Counted) (led : BTreeSet ℕ) (is : most ≡ block_steps c.diverse c.land c.leader b + owed_behind (owed_at (tick_rows c bs)) b.end (end_at b)) (leads : AddsTo goals led (leads_on b.end (end_at b)))
+  module _ (b : Block) (most : ℕ) (behind : Bool) (added : BTreeMap ℕ Counted) (led : BTreeSet ℕ) (is : most ≡ block_steps c.diverse c.land c.leader b + owed_behind c.room (owed_at (tick_rows c bs)) b.end (end_at b)) (leads : AddsTo goals led (leads_on b.end (end_at b)))
       (here : behind ≡ has_address led b.start) (sets : (q : ℕ) → get nat_cmp added q ≡ cond (is_eq (nat_cmp b.start q)) (Some (record { ticks = needs_tick c b behind most; most = most })) (get nat_cmp counts q)) where
     led_is : (a : ℕ) → has_address led a ≡ leads_in (b ∷ bs) a
     led_is a = leads.each a ∙ ap (λ x. leads_on b.end (end_at b) a || x) (are.led a)

@@ -1,6 +1,5 @@
 -- The lean form as a weave, and what is asked of the words and the table that it is woven in.
-use Rattle.std.specs.Prelude.{◌≡◌, ℕ, ◌+◌, ◌*◌, ◌%◌, ◌^◌, ◌<◌, ◌≤◌, Bool, true, false, cond, ◌==◌, ◌&&◌, nat_le, List, [], ◌∷◌, length}
-use Rattle.rv_isa.specs.declared.class.Class.TheVariants as class
+use Rattle.std.specs.Prelude.{◌≡◌, ℕ, ◌+◌, ◌*◌, ◌%◌, ◌^◌, ◌<◌, ◌≤◌, Bool, true, false, cond, ◌==◌, ◌&&◌, ◌||◌, nat_le, List, [], ◌∷◌, length}
 use Rattle.tests.specs.Admission.DataRanges.{word_count}
 use Rattle.qed_model.specs.Weave.Bounds.{end_bound}
 use Rattle.qed_model.specs.Weave.Pieces.{is_run}
@@ -24,7 +23,7 @@ use Rattle.weave_core.specs.Leaving.{sweep_cost}
 use Rattle.weave_core.specs.World.{World, Known, Ins, class_of, Program}
 use Rattle.weave_core.specs.Blocks.{IsEntryOf, TableAt}
 use Rattle.weave_core.specs.Weave.{Weave}
-use Rattle.lean.specs.Strayed.{Strayed}
+use Rattle.lean.specs.Strayed.{Strayed, by_register}
 use Rattle.lean.specs.Ticked.{is_ticked_at}
 
 -- the most steps of the check, with the look-ups behind it
@@ -54,7 +53,7 @@ weave_of w l leader = record {
 }
 
 -- the code is near, the halves are not too far from each other, the check stands in its place, from each entry there are fewer steps to the next tick than from
--- check to check, where a jump by register leads stands a tick, and each leader has code, on its grain, its entry, and its place in the table
+-- check to check, and each leader has code, on its grain, its entry, and its place in the table
 pub record LeanIn (w : World) (l : Lean) (leader : ℕ → Bool) : Type 0 where
   pub near : w.form.far ≡ false
   pub small : w.distance ≤ 2 ^ 32
@@ -62,7 +61,6 @@ pub record LeanIn (w : World) (l : Lean) (leader : ℕ → Bool) : Type 0 where
   pub apart : l.distance ≡ w.distance
   pub check : Reads w.form.far w.code w.entry l.check (check w.base w.distance l.every w.form.round w.form.spans)
   pub ticks : (a : ℕ) → leader a ≡ true → l.most a < l.every
-  pub entered : (at : ℕ) (i : Ins) → w.source at ≡ Known i → class_of i.kind ≡ class.JumpReg → (a : ℕ) → leader a ≡ true → w.reached a ≡ true → l.ticks a ≡ true
   pub known : (a : ℕ) → leader a ≡ true → IsEntryOf w a
   pub codes : (a : ℕ) → leader a ≡ true → (i : Ins) × (w.source a ≡ Known i)
   pub grain : (a : ℕ) → leader a ≡ true → a % 2 ≡ 0
@@ -88,11 +86,15 @@ InOrder leader (b ∷ bs) = ((t : ℕ) → goes_on b.end (end_at b) t ≡ true �
 abbrev pub owed : Lean → ℕ → ℕ
 owed l t = cond (l.ticks t) 0 (l.most t)
 
+-- where a block may go on: an end that is a jump by register may lead anywhere
+abbrev pub may_lead : End → ℕ → ℕ → Bool
+may_lead e at t = leads_on e at t || by_register e
+
 -- the steps of a block are counted, with those to the next tick
 abbrev pub IsCounted : Lean → (ℕ → Bool) → Block → Type 0
 IsCounted l leader b =
     (block_steps l.diverse l.land leader b ≤ l.most b.start)
-    × ((t : ℕ) → leads_on b.end (end_at b) t ≡ true → block_steps l.diverse l.land leader b + owed l t ≤ l.most b.start)
+    × ((t : ℕ) → may_lead b.end (end_at b) t ≡ true → block_steps l.diverse l.land leader b + owed l t ≤ l.most b.start)
 
 abbrev pub AreCounted : Lean → (ℕ → Bool) → List Block → Type 0
 AreCounted l leader [] = Unit {0}

@@ -71,9 +71,9 @@ fn owed_at(counts: &Counts, address: u64) -> u64
     if counted.ticks { 0 } else { counted.most }
 }
 
-/// The most of these behind an instruction that ends a block.
-fn owed_by(counts: &Counts, ins: &Ins, at: u64) -> u64
-    ensures { result ≡ owed_as_of (owed_in counts.now) (class_of ins.now.kind) ins.now at }
+/// The most of these behind an instruction that ends a block, where no address has more than `room`.
+fn owed_by(counts: &Counts, room: u64, ins: &Ins, at: u64) -> u64
+    ensures { result ≡ owed_as_of room (owed_in counts.now) (class_of ins.now.kind) ins.now at }
 {
     match ins.class() {
         Class::Jump => owed_at(counts, target(ins, at)),
@@ -82,17 +82,18 @@ fn owed_by(counts: &Counts, ins: &Ins, at: u64) -> u64
             let falls = owed_at(counts, at.wrapping_add(4));
             if taken < falls { falls } else { taken }
         }
+        Class::JumpReg => room,
         _ => 0,
     }
 }
 
 /// The most of these behind a block whose end stands at `at`.
-fn owed_behind(counts: &Counts, end: &Option<Ins>, at: u64) -> u64
-    ensures { result ≡ owed_behind_of (owed_in counts.now) (end_of end.now) at }
+fn owed_behind(counts: &Counts, room: u64, end: &Option<Ins>, at: u64) -> u64
+    ensures { result ≡ owed_behind_of room (owed_in counts.now) (end_of end.now) at }
 {
     match end {
         None => owed_at(counts, at),
-        Some(ins) => owed_by(counts, ins, at),
+        Some(ins) => owed_by(counts, room, ins, at),
     }
 }
 
@@ -136,12 +137,12 @@ fn add_goals(goals: &mut BTreeSet<u64>, end: &Option<Ins>, at: u64) -> Result<()
     Ok(())
 }
 
-/// Whether a block needs a tick: one to which a jump by register may lead, the first of the test, one to which a block from there on
-/// leads, and one from which on too many steps are.
+/// Whether a block needs a tick: the first of the test, one to which a block from there on leads, and one from which on too many steps
+/// are.
 fn needs_tick(terms: &Terms, block: &CodeBlock, behind: bool, most: u64) -> bool
     ensures { result ≡ needs_tick_of (counting terms.now) (block_of block.now) behind most }
 {
-    block.reached || block.start == terms.entry || behind || terms.room < most
+    block.start == terms.entry || behind || terms.room < most
 }
 
 /// Counts a block, where those behind it are counted, and adds the addresses to which it leads.
@@ -159,7 +160,7 @@ fn count(
 {
     let at = block.start + 4 * block.body.as_slice().len() as u64;
     let own = block_steps(terms.diverse, terms.land, terms.blocks, block);
-    let most = own.saturating_add(owed_behind(counts, &block.end, at));
+    let most = own.saturating_add(owed_behind(counts, terms.room, &block.end, at));
     add_goals(goals, &block.end, at)?;
     let ticks = needs_tick(terms, block, goals.contains(&block.start), most);
     counts.insert(block.start, Counted { ticks, most })?;

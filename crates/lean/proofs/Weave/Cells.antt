@@ -7,7 +7,7 @@ use Rattle.qed_model.specs.Weave.Code.{body_of, pieces_of}
 use Rattle.qed_model.specs.Weave.Sequences.{Reads, End, Falls, Stops, body_length, before_end, CURSOR, SIGNATURE}
 use Rattle.qed_model.specs.Weave.Costs.{cost_each}
 use Rattle.qed_model.specs.Weave.Lean.{first_word, leave, leave_cost}
-use Rattle.qed_model.specs.Weave.LeanCode.{Lean, both_steps, body_steps, fall_to, leads_on}
+use Rattle.qed_model.specs.Weave.LeanCode.{Lean, both_steps, body_steps, fall_to}
 use Rattle.machine.proofs.Lemmas.{run-more, Walk, walk_on}
 use Rattle.weave_core.specs.World.{World, Quiet, Twice, IsCursor, Going, Ended, State, reg, run, Ins, Item}
 use Rattle.weave_core.specs.Blocks.{IsEntryOf}
@@ -15,11 +15,11 @@ use Rattle.weave_core.specs.Rows.{At, Sourced}
 use Rattle.weave_core.specs.Weave.{Weave}
 use Rattle.weave_core.specs.WeaveLaws.{PieceAt, PiecesAt, EntriesAt, Met, Trail, Feeds, Stands, stops, Onward, lands, is_lost, GoesTo}
 use Rattle.weave_core.proofs.Lemmas.{no_code, source_run, steady_le, steady_none, none_run, one_run, holds_of, met_at, met_going, met_same, trail_first, trail_leave, trail_none, trail_on, feeds_first, feeds_less, feeds_on}
-use Rattle.lean.specs.Woven.{weave_of, LeanIn, swept_steps, owed, IsCounted}
+use Rattle.lean.specs.Woven.{weave_of, LeanIn, swept_steps, owed, IsCounted, may_lead}
 use Rattle.lean.proofs.Weave.Costs.{entry_some}
 use Rattle.lean.proofs.Weave.End.{Sweeps, swept_on}
 use Rattle.lean.proofs.Weave.Leave.{SignedAs}
-use Rattle.lean.proofs.Weave.Left.{Parts, OnWay, leave_row}
+use Rattle.lean.proofs.Weave.Left.{Parts, leave_row}
 use Rattle.lean.proofs.Weave.Piece.{piece_part}
 use Rattle.lean.proofs.Weave.Rows.{Entered as EnteredAt, Enters, AtCheck, passes, skips, calls}
 use Rattle.lean.specs.Ticked.{counted}
@@ -56,7 +56,7 @@ module _ (w : World) (l : Lean) (leader : ℕ → Bool) (x : LeanIn w l leader) 
   -- the output is at an entry, to which some way leads, with this number in x15
   pub record Entered (on : ℕ → Bool) (number : ℕ) (y t : State) : Type 0 where
     pub stands : Stands w leader y t
-    pub way : OnWay w l leader x block on t.pc
+    pub way : on t.pc ≡ true
     pub sign : reg y SIGNATURE ≡ t.pc
     pub cursor : reg y CURSOR ≡ number
 
@@ -102,14 +102,14 @@ module _ (w : World) (l : Lean) (leader : ℕ → Bool) (x : LeanIn w l leader) 
 
     -- the leave
     leave_through :
-        (u s : State) (most : ℕ) → Met w u s → Feeds w u s (most + 1) → Parts w l leader x block u (run s (stops e)) (stops e) most (leads_on e at)
-        → Next (leads_on e at) u s most ⊎ Finished u most
+        (u s : State) (most : ℕ) → Met w u s → Feeds w u s (most + 1) → Parts w l leader x block u (run s (stops e)) (stops e) most (may_lead e at)
+        → Next (may_lead e at) u s most ⊎ Finished u most
     leave_through u s most met feeds (inl g) = inr (record { steps = g.steps; to = g.to; within = g.within; walk = g.walk; ended = g.is.0.ended; swept = g.is.1 })
     leave_through u s most met feeds (inr (g, way)) = onward g.is where
       behind : Twice w g.to (run s (stops e)) (run s (stops e)) → g.to.outcome ≡ Going → (run s (stops e)).outcome ≡ Going → Trail w u s (stops e) g.steps
       behind h a b = let t = run s (stops e) in trail_leave w e u s g.to g.steps met g.walk.ends g.at_least (met_going w g.to t (holds_of w g.to t t h) a b)
 
-      onward : Onward w leader (SignedAs u) (run s (stops e)) g.to → Next (leads_on e at) u s most ⊎ Finished u most
+      onward : Onward w leader (SignedAs u) (run s (stops e)) g.to → Next (may_lead e at) u s most ⊎ Finished u most
       onward (lands st sg so) = inl (record { moves = stops e; steps = g.steps; to = g.to; within = g.within; walk = g.walk; trail = behind st.halved st.over.going so.over.going; sourced = so; is = record { stands = st; way = way; sign = sg.0; cursor = sg.1 } })
       onward (is_lost going h so lacks) =
           let more = feeds.more (stops e) g.steps (behind h going so.over.going) (omega (arith, g.within)) in
@@ -119,7 +119,7 @@ module _ (w : World) (l : Lean) (leader : ℕ → Bool) (x : LeanIn w l leader) 
 
     through :
         (ps : List (List Ins)) (u s : State) → s.pc + 4 * body_length ps ≡ at → At w u (body_of v.code ps e s.pc) s s → Sourced w s → PiecesAt w v leader ps e s.pc
-        → reg u SIGNATURE ≡ b → Feeds w u s (rest_steps ps + 1) → Next (leads_on e at) u s (rest_steps ps) ⊎ Finished u (rest_steps ps)
+        → reg u SIGNATURE ≡ b → Feeds w u s (rest_steps ps + 1) → Next (may_lead e at) u s (rest_steps ps) ⊎ Finished u (rest_steps ps)
     through [] u s here a so q sign feeds =
         let z : s.pc ≡ at = omega (arith, here) in
         let a0 : At w u (leave w.distance (before_end w.form) (fall_to leader) e (l.start_of e (s.pc + 4 * 0)) (s.pc + 4 * 0)) s s = subst (λ d. At w u (leave d (before_end w.form) (fall_to leader) e (l.start_of e (s.pc + 4 * 0)) (s.pc + 4 * 0)) s s) x.apart a in
@@ -128,8 +128,8 @@ module _ (w : World) (l : Lean) (leader : ℕ → Bool) (x : LeanIn w l leader) 
         let met = met_at w u s (leave w.distance (before_end w.form) (fall_to leader) e b s.pc) a2 so.over.going in
         let last = leave_cost (fall_to leader) e b at in
         let p = leave_row w l leader x block b leads e u s a2 so q (steady_le w.reached s (stops e) 1 (one e) (feeds.more 0 0 (trail_none w u s met) (omega arith))) sign in
-        let p1 : Parts w l leader x block u (run s (stops e)) (stops e) (leave_cost (fall_to leader) e b at) (leads_on e at) = subst (λ k. Parts w l leader x block u (run s (stops e)) (stops e) (leave_cost (fall_to leader) e b k) (leads_on e k)) z p in
-        subst (λ n. Next (leads_on e at) u s n ⊎ Finished u n) (zero_on last) (leave_through u s last met (feeds_less w u s (last + 1) (rest_steps [] + 1) (omega arith) feeds) p1) where
+        let p1 : Parts w l leader x block u (run s (stops e)) (stops e) (leave_cost (fall_to leader) e b at) (may_lead e at) = subst (λ k. Parts w l leader x block u (run s (stops e)) (stops e) (leave_cost (fall_to leader) e b k) (may_lead e k)) z p in
+        subst (λ n. Next (may_lead e at) u s n ⊎ Finished u n) (zero_on last) (leave_through u s last met (feeds_less w u s (last + 1) (rest_steps [] + 1) (omega arith) feeds) p1) where
           one : (e : End) → stops e ≤ 1
           one Falls = omega arith
           one (Stops i) = omega arith
@@ -156,8 +156,8 @@ module _ (w : World) (l : Lean) (leader : ℕ → Bool) (x : LeanIn w l leader) 
         let left : Feeds w r.to t (rest_steps ps + 1) = feeds_on w u s r.to t k r.steps (rest_steps ps + 1) r.walk.ends refl row.trail (feeds_less w u s (r.steps + (rest_steps ps + 1)) (rest_steps (p ∷ ps) + 1) (rest_of r.steps part body last r.within) feeds) in
         let more = through ps r.to t next_pc (subst (λ k. At w r.to (body_of v.code ps e k) t t) (sym there) r.at) y.sourced (subst (λ k. PiecesAt w v leader ps e k) (sym there) q.1) (r.sign ∙ sign) left in
         let sum : part + rest_steps ps ≡ rest_steps (p ∷ ps) = sums part body last in
-        let on = leads_on e at in
-        subst (λ n. Next (leads_on e at) u s n ⊎ Finished u n) sum
+        let on = may_lead e at in
+        subst (λ n. Next (may_lead e at) u s n ⊎ Finished u n) sum
         (⊎_elim
         (λ n. inl (way_on (Entered on (reg u CURSOR)) u r.to s r.steps k (rest_steps ps) (part + rest_steps ps) r.walk row.trail (both r.steps part (rest_steps ps) r.within) (subst (λ c. Way (Entered on c) r.to t (rest_steps ps)) r.cursor n)))
         (λ f. inr (finished_on u r.to r.steps (rest_steps ps) (part + rest_steps ps) r.walk (both r.steps part (rest_steps ps) r.within) f))
@@ -210,7 +210,7 @@ module _ (w : World) (l : Lean) (leader : ℕ → Bool) (x : LeanIn w l leader) 
       bound = let e = entries s.pc b.stands.leads in body_steps l.diverse e.body + leave_cost (fall_to leader) e.end s.pc (s.pc + 4 * body_length e.body)
 
       abbrev on : ℕ → Bool
-      on = let e = entries s.pc b.stands.leads in leads_on e.end (s.pc + 4 * body_length e.body)
+      on = let e = entries s.pc b.stands.leads in may_lead e.end (s.pc + 4 * body_length e.body)
 
       -- at most every, which is at most 2047
       room_most : room ≤ 2047
@@ -270,13 +270,8 @@ module _ (w : World) (l : Lean) (leader : ℕ → Bool) (x : LeanIn w l leader) 
           through s.pc (s.pc + 4 * body_length e.body) e.end b.stands.leads own e.body p.to s refl p.at b.sourced e.good.pieces p.sixteen feeds
 
       -- its steps are counted, with those to the next tick
-      owing : (t : ℕ) → OnWay w l leader x block on t → leader t ≡ true → entry_steps l.land + bound + owed l t ≤ l.most s.pc
-      owing t (inl way) leads = (counts.each s.pc b.stands.leads).1 t way
-      owing t (inr ticks) leads =
-          let none : owed l t ≡ 0 = ap (λ k. cond {A = ℕ} k 0 (l.most t)) (ticks leads) in
-          nothing (entry_steps l.land + bound) (owed l t) (l.most s.pc) none (counts.each s.pc b.stands.leads).0 where
-            nothing : (a o m : ℕ) → o ≡ 0 → a ≤ m → a + o ≤ m
-            nothing a o m e h = omega (arith, e, h)
+      owing : (t : ℕ) → on t ≡ true → entry_steps l.land + bound + owed l t ≤ l.most s.pc
+      owing t way = (counts.each s.pc b.stands.leads).1 t way
 
       -- where it goes to the check
       pub called : l.ticks s.pc ≡ true → l.most s.pc ≤ 2047 → suc room ≤ l.most s.pc → (most : ℕ) → entry_steps l.land + call_steps l.land ≤ most → Called u s off most
@@ -345,7 +340,7 @@ module _ (w : World) (l : Lean) (leader : ℕ → Bool) (x : LeanIn w l leader) 
           ⊎_elim
           (λ n.
           let t = run s n.moves in
-          let o = owing u s room off b t.pc n.is.way n.is.stands.leads in
+          let o = owing u s room off b t.pc n.is.way in
           let sum = all_steps p.count (l.most s.pc) (ahead s room) (owed l t.pc) (entry_steps l.land) far p.steps n.steps p.sum o p.few n.within in
           let w2 = walk_on (Quiet w) u p.to n.to p.steps n.steps p.walk n.walk in
           let trail = trail_first w u p.to s p.steps p.walk.ends n.moves n.steps n.trail in

@@ -1,14 +1,12 @@
 -- The lean form of an admitted test: all of it has words, where it has no more bytes than a JAL spans; it is a plan, and so are the promises over tests.
 use Rattle.std.proofs.Common.{◌≡◌, ℕ, ◌+◌, ◌*◌, ◌%◌, ◌^◌, ◌<◌, ◌≤◌, Bool, true, false, List, [], ◌∷◌, ◌++◌, length, Some, refl, sym, ap, ◌∙◌, subst, arith, append_assoc, length-append, ◌-◌, inl, inr}
-use Rattle.std.specs.Prelude.{map, All, pos, unwrap_or, Option, None, if◌then◌else◌}
+use Rattle.std.specs.Prelude.{map, All, pos, unwrap_or}
 use Rattle.std.proofs.lemmas.Bool.{and_from, eq-eqb, false≢true}
 use Rattle.std.proofs.Math.Nat.{min-le_left}
 use Rattle.tests.specs.declared.options.Entries.TheVariants as entries
 use Rattle.qed_model.specs.declared.plan.EntryRow.{EntryRow}
 use Rattle.machine.specs.Numbers.{bytes_of}
-use Rattle.rv_isa.specs.declared.class.Class.TheVariants as class
-use Rattle.tests.specs.Admission.CodeWords.{instruction_at, word_at, ElfFile, Ins}
-use Rattle.tests.specs.Admission.Leaders.{is_indirect}
+use Rattle.tests.specs.Admission.CodeWords.{instruction_at, ElfFile, Ins}
 use Rattle.tests.specs.Admission.Reached.{AreReached}
 use Rattle.machine.specs.Loading.{loaded_file}
 use Rattle.machine.specs.Members.{Among}
@@ -23,8 +21,8 @@ use Rattle.qed_model.specs.Weave.Lean.{call_at, check, begin, leave}
 use Rattle.qed_model.specs.Weave.LeanCode.{lean_of, lean_items, items_with, start_at, Lean, is_store, store_part, both_parts, parts_with, worded, fall_words, Counting, counting_of}
 use Rattle.qed_model.specs.Weave.LeanBounds.{cost_of, entry_steps, lean_bounds}
 use Rattle.qed_model.proofs.Lemmas.{sound_most, size-append, IsInside, mark_inside, grain_of_sizes, is_near, IsNearCode, near_jump, near_words, has_word}
-use Rattle.tests.proofs.Lemmas.{fetch_word, fetched_code, known_instruction}
-use Rattle.weave_core.specs.World.{World, Item, Program, Known, known_or, class_of, Go}
+use Rattle.tests.proofs.Lemmas.{known_instruction}
+use Rattle.weave_core.specs.World.{World, Item, Program, Known, class_of, Go}
 use Rattle.weave_core.specs.Blocks.{IsEntryOf, TableAt}
 use Rattle.weave_core.specs.WeavePromise.{AllBlocksOf, OnlyCode}
 use Rattle.weave_core.proofs.Lemmas.{marked, rows_inputs, reads_front, place_low, AreItems, loaded_ranges, Ascend, code_distinct, rows_are, entry_or_stub, length-instructions, mark_behind, rows_behind, down, up, both_all, if_all, AllPieces, IsKnownBlock, InImage, admitted_image, test_writable}
@@ -35,7 +33,7 @@ use Rattle.lean.proofs.Weave.Costs.{call_fits}
 use Rattle.lean.proofs.Weave.Ways.{reads_behind}
 use Rattle.lean.proofs.Weave.Blocks.{begun, begins, length_is, leading, starts, in_order, all_good}
 use Rattle.lean.proofs.Weave.Short.{only_reached, few_steps, own_most, own_few, short}
-use Rattle.lean.proofs.Weave.Ticks.{entry_ticks, entered_ticks, few_most, all_counted}
+use Rattle.lean.proofs.Weave.Ticks.{entry_ticks, few_most, all_counted}
 use Rattle.lean.proofs.Weave.Landed.{lean_landed}
 use Rattle.lean.proofs.Weave.Piece.{store_class}
 use Rattle.lean.proofs.Weave.Plan.{entry_grain}
@@ -46,7 +44,7 @@ use Rattle.std.specs.List.{list_all}
 use Rattle.std.proofs.lemmas.List.{append_assoc}
 use Rattle.std.proofs.lemmas.List.Elements.{All-head, All-tail}
 use Rattle.tests.specs.Admission.DataRanges.{data_ranges}
-use Rattle.machine.specs.Table.{ins, decode_of, Illegal, Jal}
+use Rattle.machine.specs.Table.{ins, Illegal, Jal}
 use Rattle.qed_model.specs.Promise.Landed.{IsEntry}
 use Rattle.lean.proofs.Weave.Near.{check_near, begin_near, enter_near, store_near, leave_near, before_near}
 use Rattle.weave_core.proofs.FileOfItems as of
@@ -290,18 +288,6 @@ module _ (f : ElfFile) (o : Options) (every : ℕ) (blocks : List Block) (t : Ar
           (of.good f o t.sound t.file.loads t.admitted blocks t.are false true items words are_items reached aims (λ e. refl))
 
       -- ---- the plan
-      -- where a jump by register leads stands a tick
-      entered : (x : ℕ) (i : Ins) → w.source x ≡ Known i → class_of i.kind ≡ class.JumpReg → (a : ℕ) → begins_at blocks a ≡ true → reached a ≡ true → l.ticks a ≡ true
-      entered x i h c a e r =
-          let shape = of.shape f o t.sound t.file.loads t.admitted blocks t.are in
-          let stands = fetched_code f shape x i h in
-          let decoded : decode_of (word_at f x) ≡ Some i = known_by (word_at f x) (decode_of (word_at f x)) (sym (fetch_word f shape x stands) ∙ h) in
-          let there : instruction_at f x ≡ Some i = ap (λ b. if b then decode_of (word_at f x) else None) stands ∙ decoded in
-          entered_ticks counting f o blocks a t.are.marked (reached_only, (x, record { instruction = i; stands = there; class = ap is_indirect c }), aims reached_only a r) where
-            known_by : (n : ℕ) (d : Option Ins) → known_or n d ≡ Known i → d ≡ Some i
-            known_by n None e = absurd (cc)
-            known_by n (Some j) e = cc
-
       begins_entry : begins_at blocks f.entry ≡ true
       begins_entry = of.begins f o t.sound t.file.loads t.admitted blocks t.are
 
@@ -330,7 +316,6 @@ module _ (f : ElfFile) (o : Options) (every : ℕ) (blocks : List Block) (t : Ar
         ticks = λ a e. few_ahead a;
         codes = codes;
         grain = λ a e. let g = grain a e in omega (arith, g);
-        entered = entered;
         known = known;
         table = table;
       } where

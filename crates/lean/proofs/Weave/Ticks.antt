@@ -1,21 +1,21 @@
 -- Which blocks have a tick, and that ticks count the steps to the next one.
-use Rattle.std.proofs.Common.{◌≡◌, ℕ, ◌+◌, ◌%◌, ◌^◌, ◌<◌, ◌≤◌, inl, inr, ⊎_elim, Bool, true, false, cond, List, [], ◌∷◌, refl, sym, ap, ◌∙◌, subst, arith, ◌⊎◌}
-use Rattle.std.specs.Prelude.{◌==◌, ◌||◌, nat_lt, max, All}
+use Rattle.std.proofs.Common.{◌≡◌, ℕ, ◌+◌, ◌%◌, ◌^◌, ◌<◌, ◌≤◌, inl, inr, ⊎_elim, Bool, true, false, cond, List, [], ◌∷◌, refl, sym, ap, ◌∙◌, arith, ◌⊎◌}
+use Rattle.std.specs.Prelude.{◌==◌, ◌||◌, nat_lt, max}
 use Rattle.std.proofs.lemmas.Bool.{cases_lt, eq-eqb, eqb-true, false≢true, lt-ltb, ne_eqb, or_cases, or_left, or_right}
-use Rattle.std.proofs.lemmas.List.Elements.{All-head, All-tail}
 use Rattle.std.proofs.Math.Nat.{le-max_left, le-max_right, max-le}
 use Rattle.rv_isa.specs.declared.class.Class.TheVariants as class
+use Rattle.tests.specs.Admission.Leaders.{is_indirect}
 use Rattle.machine.specs.Step.{target, Class, Ins, class_of}
 use Rattle.machine.specs.Members.{Among}
-use Rattle.qed_model.specs.Weave.Blocks.{IsEntered, IsMarked, ElfFile, Options}
 use Rattle.qed_model.specs.Weave.Sequences.{End, Falls, Stops, Block}
 use Rattle.qed_model.specs.Weave.LeanCode.{Lean, end_at, block_steps, leads_as, leads_on, leads_in, TickRow, has_tick, most_at, owed_at, owed_as, owed_behind, Counting, needs_tick, tick_rows}
 use Rattle.weave_core.proofs.Lemmas.{Ascend}
+use Rattle.lean.specs.Strayed.{by_register}
 use Rattle.lean.specs.Woven.{owed, IsCounted, AreCounted}
 
 -- ---- what is owed behind an end
-module _ (owes : ℕ → ℕ) where
-  owed_as_le : (c : Class) (i : Ins) (at t : ℕ) → leads_as c i at t ≡ true → owes t ≤ owed_as owes c i at
+module _ (most : ℕ) (owes : ℕ → ℕ) where
+  owed_as_le : (c : Class) (i : Ins) (at t : ℕ) → leads_as c i at t ≡ true → owes t ≤ owed_as most owes c i at
   owed_as_le class.Jump i at t e = let k = ap owes (eqb-true (target i at) t e) in omega (arith, k)
   owed_as_le class.Branch i at t e =
       ⊎_elim
@@ -24,16 +24,25 @@ module _ (owes : ℕ → ℕ) where
       (or_cases (target i at == t) ((at + 4) % 2 ^ 64 == t) e)
   owed_as_le _ i at t e = absurd (false≢true e)
 
-  owed_le : (e : End) (at t : ℕ) → leads_on e at t ≡ true → owes t ≤ owed_behind owes e at
+  owed_le : (e : End) (at t : ℕ) → leads_on e at t ≡ true → owes t ≤ owed_behind most owes e at
   owed_le Falls at t e = let k = ap owes (eqb-true at t e) in omega (arith, k)
   owed_le (Stops i) at t e = owed_as_le (class_of i.kind) i at t e
+
+  -- the most, behind a jump by register
+  most_as : (c : Class) (i : Ins) (at : ℕ) → is_indirect c ≡ true → owed_as most owes c i at ≡ most
+  most_as class.JumpReg i at e = refl
+  most_as _ i at e = absurd (false≢true e)
+
+  most_owed : (e : End) (at : ℕ) → by_register e ≡ true → owed_behind most owes e at ≡ most
+  most_owed Falls at e = absurd (false≢true e)
+  most_owed (Stops i) at e = most_as (class_of i.kind) i at e
 
 module _ (c : Counting) where
   abbrev rows : List Block → List TickRow
   rows bs = tick_rows c bs
 
   abbrev most_of : Block → List Block → ℕ
-  most_of b bs = block_steps c.diverse c.land c.leader b + owed_behind (owed_at (rows bs)) b.end (end_at b)
+  most_of b bs = block_steps c.diverse c.land c.leader b + owed_behind c.room (owed_at (rows bs)) b.end (end_at b)
 
   -- ---- looking up
   -- at the first block
@@ -69,18 +78,7 @@ module _ (c : Counting) where
         let s = eqb-true b.start a x in
         let is : (b.start == c.entry) ≡ true = eq-eqb b.start c.entry (s ∙ e) in
         tick_first b bs a s
-        ∙ or_right b.reached ((b.start == c.entry) || (leads_in (b ∷ bs) b.start || nat_lt c.room (most_of b bs))) (or_left (b.start == c.entry) (leads_in (b ∷ bs) b.start || nat_lt c.room (most_of b bs)) is)
-    by false x rest = tick_later b bs a (λ s. false≢true (sym x ∙ eq-eqb b.start a s)) ∙ rest
-
-  -- one to which a JALR may lead
-  pub entered_ticks : (f : ElfFile) (o : Options) (bs : List Block) (a : ℕ) → All (IsMarked f o) bs → IsEntered f o a → has_tick (rows bs) a ≡ true
-  entered_ticks f o [] a m h = refl
-  entered_ticks f o (b ∷ bs) a m h = by (b.start == a) refl (entered_ticks f o bs a (All-tail (IsMarked f o) b bs m) h) where
-    by : (x : Bool) → (b.start == a) ≡ x → has_tick (rows bs) a ≡ true → has_tick (rows (b ∷ bs)) a ≡ true
-    by true x rest =
-        let s = eqb-true b.start a x in
-        let marked : b.reached ≡ true = (All-head (IsMarked f o) b bs m).1 (subst (IsEntered f o) (sym s) h) in
-        tick_first b bs a s ∙ or_left b.reached ((b.start == c.entry) || (leads_in (b ∷ bs) b.start || nat_lt c.room (most_of b bs))) marked
+        ∙ or_left (b.start == c.entry) (leads_in (b ∷ bs) b.start || nat_lt c.room (most_of b bs)) is
     by false x rest = tick_later b bs a (λ s. false≢true (sym x ∙ eq-eqb b.start a s)) ∙ rest
 
   -- one to which it or a later one leads
@@ -91,8 +89,7 @@ module _ (c : Counting) where
         let s = eqb-true b.start a x in
         let is : leads_in (b ∷ bs) b.start ≡ true = ap (leads_in (b ∷ bs)) s ∙ led in
         tick_first b bs a s
-        ∙ or_right b.reached ((b.start == c.entry) || (leads_in (b ∷ bs) b.start || nat_lt c.room (most_of b bs)))
-        (or_right (b.start == c.entry) (leads_in (b ∷ bs) b.start || nat_lt c.room (most_of b bs)) (or_left (leads_in (b ∷ bs) b.start) (nat_lt c.room (most_of b bs)) is))
+        ∙ or_right (b.start == c.entry) (leads_in (b ∷ bs) b.start || nat_lt c.room (most_of b bs)) (or_left (leads_in (b ∷ bs) b.start) (nat_lt c.room (most_of b bs)) is)
     by false x =
         let other : b.start ≡ a → ⊥ = λ s. false≢true (sym x ∙ eq-eqb b.start a s) in
         tick_later b bs a other ∙ tick_below bs (b.start + 1) a h.1 (let o : b.start ≡ a → ⊥ = other in omega (arith, le, o))
@@ -109,8 +106,7 @@ module _ (c : Counting) where
         absurd
         (false≢true
         (sym e
-        ∙ or_right b.reached ((b.start == c.entry) || (leads_in (b ∷ bs) b.start || nat_lt c.room (most_of b bs)))
-        (or_right (b.start == c.entry) (leads_in (b ∷ bs) b.start || nat_lt c.room (most_of b bs)) (or_right (leads_in (b ∷ bs) b.start) (nat_lt c.room (most_of b bs)) (lt-ltb c.room (most_of b bs) lt))))))
+        ∙ or_right (b.start == c.entry) (leads_in (b ∷ bs) b.start || nat_lt c.room (most_of b bs)) (or_right (leads_in (b ∷ bs) b.start) (nat_lt c.room (most_of b bs)) (lt-ltb c.room (most_of b bs) lt)))))
         (λ le. le)
         (cases_lt c.room (most_of b bs))
 
@@ -118,10 +114,10 @@ module _ (c : Counting) where
     by true x rest = small (ticks_here b bs) refl
     by false x rest = rest
 
-  pub few_behind : (bs : List Block) (e : End) (at : ℕ) → owed_behind (owed_at (rows bs)) e at ≤ c.room
+  pub few_behind : (bs : List Block) (e : End) (at : ℕ) → owed_behind c.room (owed_at (rows bs)) e at ≤ c.room
   few_behind bs Falls at = few_owed bs at
   few_behind bs (Stops i) at = by (class_of i.kind) where
-    by : (k : Class) → owed_as (owed_at (rows bs)) k i at ≤ c.room
+    by : (k : Class) → owed_as c.room (owed_at (rows bs)) k i at ≤ c.room
     by class.Jump = few_owed bs (target i at)
     by class.Branch = let x = few_owed bs (target i at) in let y = few_owed bs ((at + 4) % 2 ^ 64) in max_le (owed_at (rows bs) (target i at)) (owed_at (rows bs) ((at + 4) % 2 ^ 64)) x y where
       max_le : (m n : ℕ) → m ≤ c.room → n ≤ c.room → max m n ≤ c.room
@@ -163,15 +159,23 @@ module _ (c : Counting) where
         let is : l.most b.start ≡ most_of b bs = k.mosts_there b.start h.0 ∙ most_first b bs b.start refl in
         let same : block_steps l.diverse l.land c.leader b ≡ block_steps c.diverse c.land c.leader b = ap (λ x. block_steps x l.land c.leader b) diverse ∙ ap (λ x. block_steps c.diverse x c.leader b) land in (
           omega (arith, is, same),
-          λ t on.
+          λ t may.
+              ⊎_elim
+              (λ on.
               ⊎_elim
               (λ le. let none : owed l t ≡ 0 = ap (λ x. cond {A = ℕ} x 0 (l.most t)) (led_here low b bs h k t le (or_left (leads_on b.end (end_at b) t) (leads_in bs t) on)) in omega (arith, is, same, none))
               (λ lt.
               let r = rest_of low b bs h k in
               let there : owed l t ≡ owed_at (rows bs) t = ap (λ x. cond {A = ℕ} x 0 (l.most t)) (r.ticks_there t lt) ∙ ap (λ n. cond {A = ℕ} (has_tick (rows bs) t) 0 n) (r.mosts_there t lt) in
-              let few = owed_le (owed_at (rows bs)) b.end (end_at b) t on in
+              let few = owed_le c.room (owed_at (rows bs)) b.end (end_at b) t on in
               omega (arith, is, same, there, few))
-              (or_before t b.start),
+              (or_before t b.start))
+              (λ leaps.
+              let few = few_owed blocks t in
+              let there : owed l t ≡ owed_at (rows blocks) t = ap (λ x. cond {A = ℕ} x 0 (l.most t)) (ticks t) ∙ ap (λ n. cond {A = ℕ} (has_tick (rows blocks) t) 0 n) (mosts t) in
+              let all = most_owed c.room (owed_at (rows bs)) b.end (end_at b) leaps in
+              omega (arith, is, same, few, there, all))
+              (or_cases (leads_on b.end (end_at b) t) (by_register b.end) may),
         ) where
           or_before : (t s : ℕ) → (t ≤ s) ⊎ (s + 1 ≤ t)
           or_before t s = ⊎_elim (λ lt. inr (omega (arith, lt))) (λ le. inl le) (cases_lt s t)

@@ -135,15 +135,16 @@ most_at (r ∷ rs) a = cond (r.start == a) r.most (most_at rs a)
 abbrev pub owed_at : List TickRow → ℕ → ℕ
 owed_at rs t = cond (has_tick rs t) 0 (most_at rs t)
 
--- the most behind an end, where so much is owed at each address
-abbrev pub owed_as : (ℕ → ℕ) → Class → Ins → ℕ → ℕ
-owed_as owed class.Jump i at = owed (target i at)
-owed_as owed class.Branch i at = max (owed (target i at)) (owed ((at + 4) % 2 ^ 64))
-owed_as owed _ i at = 0
+-- the most behind an end, where so much is owed at each address, and at most so much at any: that is owed behind a jump by register
+abbrev pub owed_as : ℕ → (ℕ → ℕ) → Class → Ins → ℕ → ℕ
+owed_as most owed class.Jump i at = owed (target i at)
+owed_as most owed class.Branch i at = max (owed (target i at)) (owed ((at + 4) % 2 ^ 64))
+owed_as most owed class.JumpReg i at = most
+owed_as most owed _ i at = 0
 
-abbrev pub owed_behind : (ℕ → ℕ) → End → ℕ → ℕ
-owed_behind owed Falls at = owed at
-owed_behind owed (Stops i) at = owed_as owed (class_of i.kind) i at
+abbrev pub owed_behind : ℕ → (ℕ → ℕ) → End → ℕ → ℕ
+owed_behind most owed Falls at = owed at
+owed_behind most owed (Stops i) at = owed_as most owed (class_of i.kind) i at
 
 -- what the rows depend on besides the blocks: what the steps do, which addresses begin a block, the entry of the test, and how many steps may be left to
 -- the tick before
@@ -154,16 +155,15 @@ pub record Counting : Type 0 where
   pub entry : ℕ
   pub room : ℕ
 
--- a block to which a jump by register may lead has a tick, so has the first of the test, one to which a block from there on leads, and one behind which too many
--- steps are
+-- the first block of the test has a tick, so has one to which a block from there on leads, and one behind which too many steps are
 abbrev pub needs_tick : Counting → Block → Bool → ℕ → Bool
-needs_tick c b behind most = b.reached || ((b.start == c.entry) || (behind || nat_lt c.room most))
+needs_tick c b behind most = (b.start == c.entry) || (behind || nat_lt c.room most)
 
 -- of blocks in ascending order
 abbrev pub tick_rows : Counting → List Block → List TickRow
 tick_rows c [] = []
 tick_rows c (b ∷ bs) =
-    let most : ℕ = block_steps c.diverse c.land c.leader b + owed_behind (owed_at (tick_rows c bs)) b.end (end_at b) in
+    let most : ℕ = block_steps c.diverse c.land c.leader b + owed_behind c.room (owed_at (tick_rows c bs)) b.end (end_at b) in
     record { start = b.start; ticks = needs_tick c b (leads_in (b ∷ bs) b.start) most; most = most } ∷ tick_rows c bs
 
 -- ---- of a file
