@@ -152,20 +152,20 @@ plan_faults f g w most blocks bounds p law closes some b =
     subst (λ n. FaultsFound f g w.reached w.form.spans bounds n (piece_of w.form most)) (sym (start_is w most))
     (subst (λ n. FaultsFound f g w.reached w.form.spans bounds (start_steps (weave_of w.form most)) n) (sym (stage_is w most))
     (faults_found f g w (start_steps (weave_of w.form most)) (stage_steps (weave_of w.form most)) bounds code big wide (plan_caught_all f g w most blocks bounds p law closes some b))) where
-  code : CalmCode f g w (start_steps (weave_of w.form most)) (stage_steps (weave_of w.form most))
-  code = calm_plan f g w (weave_of w.form most) blocks p (form_rows w most (begins_at blocks) law).rows (form_starts w most (begins_at blocks) f g) (form_words w.form most closes.mirrors) closes.only (omega arith)
+      code : CalmCode f g w (start_steps (weave_of w.form most)) (stage_steps (weave_of w.form most))
+      code = calm_plan f g w (weave_of w.form most) blocks p (form_rows w most (begins_at blocks) law).rows (form_starts w most (begins_at blocks) f g) (form_words w.form most closes.mirrors) closes.only (omega arith)
 
-  are_bounds : BoundsOf w (weave_of w.form most) bounds
-  are_bounds = bounds_in w most bounds b
+      are_bounds : BoundsOf w (weave_of w.form most) bounds
+      are_bounds = bounds_in w most bounds b
 
-  big_piece : 2 ≤ stage_steps (weave_of w.form most)
-  big_piece = omega arith
+      big_piece : 2 ≤ stage_steps (weave_of w.form most)
+      big_piece = omega arith
 
-  big : 2 ≤ bounds.register
-  big = omega (arith, are_bounds.register)
+      big : 2 ≤ bounds.register
+      big = omega (arith, are_bounds.register)
 
-  wide : (n : ℕ) → bounds.word ≡ Some n → 2 ≤ n
-  wide n e = big_word (word_count w.form.spans) w.form.round (start_steps (weave_of w.form most)) (stage_steps (weave_of w.form most)) n big_piece (sym are_bounds.word ∙ e)
+      wide : (n : ℕ) → bounds.word ≡ Some n → 2 ≤ n
+      wide n e = big_word (word_count w.form.spans) w.form.round (start_steps (weave_of w.form most)) (stage_steps (weave_of w.form most)) n big_piece (sym are_bounds.word ∙ e)
 
 -- ---- of each test
 pub instruction_faults_are_caught : InstructionFaultsAreCaught
