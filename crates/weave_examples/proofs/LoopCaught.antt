@@ -1,22 +1,23 @@
 -- The promise on changes at work, on a known test with a loop: changes of x5, whose runs are worked out.
-use Rattle.std.proofs.Common.{◌≡◌, ℕ, ◌+◌, true, false, List, [], ◌∷◌, refl, ap, ◌∙◌, arith}
+use Rattle.std.proofs.Common.{◌≡◌, inl, ℕ, ◌+◌, true, false, List, [], ◌∷◌, refl, ap, ◌∙◌, arith}
 use Rattle.std.specs.Prelude.{pos}
 use Rattle.qed_model.specs.declared.change.Change.{Change}
 use Rattle.machine.specs.declared.place.Place.TheVariants.{Reg}
-use Rattle.weave_core.specs.World.{start, zeros, Going, Fired, Beq, Bne, Ebreak, Jal, ins, execute, jumped, computed_value, value, holds}
+use Rattle.weave_core.specs.World.{memory_of, start, zeros, Going, Fired, Addi, Beq, Bne, Ebreak, Jal, State, Known, fetched_at, next, next_pc, moved, set_reg, run, ins, execute, jumped, computed_value, value, holds}
 use Rattle.machine.specs.Struck.{struck}
 use Rattle.qed_model.specs.Promise.InStep.{CaughtInStep, SettlesWithin}
 use Rattle.qed_model.specs.Promise.Changed.{changed_run}
+use Rattle.qed_model.specs.Promise.Faults.{FaultsFound, gives}
 use Rattle.qed_model.specs.Promise.Closed.{is_closed, uses, guards_other, is_checked}
 use Rattle.qed_model.specs.Promise.Kept.{after_output, any_address}
 use Rattle.qed_model.proofs.Lemmas.{defaults, steady_any, any_reached, covers_steady}
 use Rattle.weave_examples.proofs.KnownFiles.{loop}
 use Rattle.weave_examples.proofs.LoopExample.{loop_plan, loop_told, loop_blocks}
 use Rattle.tests.proofs.Lemmas.{zeros_start}
-use Rattle.weave_examples.proofs.ListedRuns.{state_of}
+use Rattle.weave_examples.proofs.ListedRuns.{found, run_is, state_of}
 use Rattle.weave_examples.proofs.LoopKept.{loop_words, loop_input, loop_output, loop_new_code, loop_stand, output_run, input_ended}
 use Rattle.weave_examples.proofs.ListedChanges.{changed_go, closed_there}
-use Rattle.lockstep.proofs.Lemmas.{tests_caught}
+use Rattle.lockstep.proofs.Lemmas.{tests_caught, instruction_faults_are_caught}
 
 loop_caught : CaughtInStep loop_input loop_output any_address [] loop_plan.bounds 32 120
 loop_caught = tests_caught loop defaults loop_blocks loop_words.0 loop_plan loop_words.1 loop_told any_address (any_reached loop defaults refl)
@@ -56,3 +57,37 @@ at_use = ap (λ s. is_closed s 5) (output_run 73 refl) ∙ closed_there loop_out
 closed_fired : changed_run (start loop_output zeros) (seven 73 ∷ []) 86 ≡ state_of loop_output (0 ∷ 0 ∷ 0 ∷ 0 ∷ 0 ∷ 6 ∷ 0 ∷ 0 ∷ 0 ∷ 0 ∷ 0 ∷ 0 ∷ 0 ∷ 0 ∷ 4096 ∷ 0 ∷ 0x10004 ∷ 0 ∷ 0 ∷ 0 ∷ 0 ∷ 0 ∷ 0 ∷ 0 ∷ 0 ∷ 0 ∷ 0 ∷ 0 ∷ 0 ∷ 0 ∷ 0x10004 ∷ 0 ∷ []) 0x13140 Fired
 unfolding execute jumped computed_value value holds struck
 closed_fired = changed_go loop_output 0x13000 loop_new_code loop_stand (seven 73) 72 13 (turn 7) 0x131a4 refl refl refl refl
+
+-- ---- a wrong instruction: the first one of the test gives 7 and not 2
+loop_faults : FaultsFound loop_input loop_output any_address [] loop_plan.bounds 32 120
+loop_faults = instruction_faults_are_caught loop defaults loop_blocks loop_words.0 loop_plan loop_words.1 loop_told any_address (any_reached loop defaults refl)
+
+-- the output's registers in the first block, with numbers in x5 and x21
+abbrev first_turn : ℕ → ℕ → List ℕ
+first_turn x y = 0 ∷ 0 ∷ 0 ∷ 0 ∷ 0 ∷ x ∷ 0 ∷ 0 ∷ 0 ∷ 0 ∷ 0 ∷ 0 ∷ 0 ∷ 0 ∷ 4096 ∷ 0 ∷ 0x10000 ∷ 0 ∷ 0 ∷ 0 ∷ 0 ∷ y ∷ 0 ∷ 0 ∷ 0 ∷ 0 ∷ 0 ∷ 0 ∷ 0 ∷ 0 ∷ 0x10000 ∷ 0 ∷ []
+
+-- after 33 steps it is next
+before_two : after_output loop_output zeros 33 ≡ state_of loop_output (first_turn 0 0) 0x13088 Going
+unfolding execute jumped computed_value value holds
+before_two = output_run 33 refl
+
+two_next : next (after_output loop_output zeros 33) ≡ Known (ins Addi 5 0 0 (pos 2))
+two_next = ap next before_two ∙ found (fetched_at (memory_of loop_output.segments) loop_output.ranges) 0x13000 loop_new_code 0x13088 (ins Addi 5 0 0 (pos 2)) loop_stand refl
+
+-- what it leaves
+abbrev wrong_two : State
+wrong_two = moved (set_reg 5 7 (after_output loop_output zeros 33).regs) (next_pc (after_output loop_output zeros 33)) (after_output loop_output zeros 33)
+
+-- all premises of the promise are met
+two_settles : SettlesWithin [] 0 272 (run wrong_two) (λ k. after_output loop_output zeros (34 + k))
+two_settles =
+    loop_faults.results zeros 33 (ins Addi 5 0 0 (pos 2)) wrong_two zeros_start (ap (λ s. s.outcome) before_two) two_next (record { writes = inl refl; some = omega arith; low = omega arith })
+    (gives 7 refl) (covers_steady loop_input loop_output any_address 32 120 zeros (34 + 272) ((steady_any loop_input (34 + 272)).1 (input_ended (34 + 272) (omega arith))))
+
+-- the comparison of x5 fires seven steps later
+wrong_is : wrong_two ≡ state_of loop_output (first_turn 7 0) 0x1308c Going
+wrong_is = ap (λ s. moved (set_reg 5 7 s.regs) (next_pc s) s) before_two
+
+two_fired : run wrong_two 7 ≡ state_of loop_output (first_turn 7 2) 0x130b4 Fired
+unfolding execute jumped computed_value value holds
+two_fired = ap (λ s. run s 7) wrong_is ∙ run_is (memory_of loop_output.segments) loop_output.ranges 0x13000 loop_new_code loop_stand 7 (state_of loop_output (first_turn 7 0) 0x1308c Going) refl refl refl
