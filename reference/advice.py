@@ -15,7 +15,7 @@ from texts import MOST_OF_FILE_NAME, Stopped, encoded, printable
 from weave import SIGNATURE, SPARE, T, Role, bounds
 from words import COMMANDS, OTHER_NAMES, Order, change_of, order_of
 
-PAIRS = {0, *range(17, 30)}
+LAST_ORIGINAL, PAIRS = 13, {0, *range(17, 30)}
 ABOVE_X13 = "a4 a5 a6 a7 s2 s3 s4 s5 s6 s7 s8 s9 s10 s11 t3 t4 t5 t6".split()
 SENTENCES = dict(line.split(" = ", 1) for line in told("sentences").splitlines())
 
@@ -168,19 +168,24 @@ def _before(memory: Memory, address: int, far: int) -> Optional[isa.Instruction]
     return None if word is None else isa.decode(word)
 
 
-def _role(memory: Memory, ebreak: int, first: int, second: int) -> Role:
-    """The role of a check of an output, by its registers and the words before it."""
-    near = _before(memory, ebreak, 8)
-    if {first, second} <= PAIRS or (first, second) == (SIGNATURE, T) and near.name == "andi":
-        return Role("leave")
+def _found(memory: Memory, ebreak: int, first: int, second: int) -> Optional[str]:
+    """The line of a check of an output, by its registers and the words before it; None where a word of these is missing."""
+    near, third, tenth = (_before(memory, ebreak, far) for far in (8, 12, 40))
+    if {first, second} <= PAIRS:
+        return fired_line(Role("leave"))
+    if near is None:
+        return None
     if (first, second) == (SIGNATURE, T):
-        address = (ebreak - 12 + _before(memory, ebreak, 12).imm + near.imm) % 2**64
-        return Role("entry", (address,)) if near.name == "addi" else Role("check")
+        if near.name != "addi":
+            return fired_line(Role("leave" if near.name == "andi" else "check"))
+        return None if third is None else fired_line(Role("entry", ((ebreak - 12 + third.imm + near.imm) % 2**64,)))
     if (first, second) == (T, SPARE):
         if near.name != "lui":
-            return Role("visit")
-        return Role("look-up" if _before(memory, ebreak, 40).rs1 == SIGNATURE else "leave")
-    return Role("guard", (), first)
+            return fired_line(Role("visit"))
+        return None if tenth is None else fired_line(Role("look-up" if tenth.rs1 == SIGNATURE else "leave"))
+    if first <= LAST_ORIGINAL and second == SPARE:
+        return fired_line(Role("guard", (), first))
+    return f"fired: x{first} and x{second} differ\n"
 
 
 def _fired(file: File, ebreak: int, printed: str) -> str:
@@ -197,8 +202,10 @@ def _fired(file: File, ebreak: int, printed: str) -> str:
     if isa.TAKEN[check.name](values[first], values[second]):
         found = "are equal at the ebreak behind their check" if check.name == "beq" else "pass the check before the ebreak"
         return f"qed: x{first} and x{second} {found}: a jump may have led there\n"
-    found = fired_line(_role(memory, ebreak, first, second)) if is_output else f"fired: x{first} and x{second} differ\n"
-    return f"qed: a check {found}"
+    if not is_output:
+        return f"qed: a check fired: x{first} and x{second} differ\n"
+    found = _found(memory, ebreak, first, second)
+    return "" if found is None else f"qed: a check {found}"
 
 
 def _run(order: Order, printed: str, shelf: Shelf) -> str:
