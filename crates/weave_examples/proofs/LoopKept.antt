@@ -1,9 +1,13 @@
 -- A known file, a test with a loop: the promise holds of it, and its run and that of its output are worked out on the definitions.
-use Rattle.std.proofs.Common.{◌≡◌, inl, inr, ℕ, ◌+◌, ◌-◌, ◌≤◌, true, false, List, [], ◌∷◌, refl, sym, ap, ◌∙◌, arith}
+use Rattle.std.proofs.Common.{◌≡◌, inl, inr, ℕ, zero, suc, ◌+◌, ◌-◌, ◌<◌, ◌≤◌, Bool, true, false, List, [], ◌∷◌, Some, refl, sym, ap, ◌∙◌, arith}
+use Rattle.std.specs.Prelude.{pos, neg_ℤ, replicate}
+use Rattle.rv_isa.specs.declared.class.Class.TheVariants as class
+use Rattle.machine.specs.Table.{Ecall}
+use Rattle.tests.specs.Admission.Reached.{AreReached}
 use Rattle.tests.specs.Elf.FileRead.{file_read}
 use Rattle.machine.specs.Loading.{load_segments, loaded_file}
-use Rattle.weave_core.specs.World.{Program, memory_of, start, zeros, Going, Ended, Ins, HasAt, fetched_at, execute, jumped, computed_value, value, holds}
-use Rattle.qed_model.specs.Promise.Kept.{Halves, after_input, after_output, is_trapped, NotTrapped, any_address}
+use Rattle.weave_core.specs.World.{Program, memory_of, start, zeros, Going, Ended, Addi, Bne, Ins, ins, Known, State, class_of, next, HasAt, fetched_at, execute, jumped, computed_value, value, holds}
+use Rattle.qed_model.specs.Promise.Kept.{Halves, LeadsToReached, Steady, after_input, after_output, is_trapped, NotTrapped, any_address}
 use Rattle.qed_model.specs.Promise.Landed.{Fires, placed_at}
 use Rattle.qed_model.specs.Promise.InStep.{LandedInStep}
 use Rattle.qed_model.specs.Promise.OwnSteps.{KeptInStep, arrival}
@@ -16,7 +20,7 @@ use Rattle.weave_examples.proofs.LoopExample.{loop_plan, loop_told, loop_code, l
 use Rattle.tests.specs.Elf.Sound.{AreLoads}
 use Rattle.machine.proofs.Lemmas.{run-more}
 use Rattle.weave_core.specs.Tests.{IsWovenTest}
-use Rattle.weave_examples.proofs.ListedRuns.{has_code, is_simple_run, go, run_is, state_of}
+use Rattle.weave_examples.proofs.ListedRuns.{found, has_code, instruction_at, is_simple_run, go, run_is, state_of}
 use Rattle.weave_core.proofs.TestKept as kept
 use Rattle.weave_core.proofs.Lemmas.{tests_have_words, tests_kept, tests_landed, run-ended}
 
@@ -103,3 +107,45 @@ at_entry = let e = output_run 30 refl in (ap (λ s. s.outcome) e, ap (λ s. s.pc
 landed_wrong : Fires 4 (placed_at 0x131b0 (after_output loop_output zeros 30))
 landed_wrong =
     loop_landed.fires zeros 30 0x10000 0x1000c 0x13078 0x131b0 zeros_start (inr ((steady_any loop_input 30).1 (input_ended 30 (omega arith)))) (inl (refl, refl)) (inr (inr (inl (refl, refl)))) (λ e. absurd (omega (arith, e))) at_entry.0 at_entry.1
+
+-- ---- with a set of reached addresses that has none: no jump by register is among the input's steps
+abbrev none : ℕ → Bool
+none a = false
+
+no_jump : (s : State) (i : Ins) → next s ≡ Known i → (class_of i.kind ≡ class.JumpReg → ⊥) → LeadsToReached none s
+no_jump s i here other = λ j going there jumps.
+    let both : Known i ≡ Known j = sym here ∙ there in
+    let same : i ≡ j = cc in
+    absurd (other (ap (λ k. class_of k.kind) same ∙ jumps))
+
+-- the input's registers, with a number in x5
+abbrev x5_is : ℕ → List ℕ
+x5_is x = 0 ∷ 0 ∷ 0 ∷ 0 ∷ 0 ∷ x ∷ replicate 26 0
+
+at_step :
+    (n x pc : ℕ) (i : Ins) → after_input loop_input n ≡ state_of loop_input (x5_is x) pc Going → instruction_at 0x10000 loop_code pc ≡ Some i → (class_of i.kind ≡ class.JumpReg → ⊥)
+    → LeadsToReached none (after_input loop_input n)
+at_step n x pc i is here other =
+    no_jump (after_input loop_input n) i (ap next is ∙ found (fetched_at (memory_of loop_input.segments) loop_input.ranges) 0x10000 loop_code pc i (has_code loop shape 0x10000 loop_code loop_known.stand) here) other
+
+steps_lead : (k : ℕ) → k < 6 → LeadsToReached none (after_input loop_input k)
+unfolding execute jumped computed_value value holds
+steps_lead zero l = at_step 0 0 0x10000 (ins Addi 5 0 0 (pos 2)) (input_run 0 refl) refl (λ e. absurd (cc))
+steps_lead (suc zero) l = at_step 1 2 0x10004 (ins Addi 5 5 0 (neg_ℤ (pos 1))) (input_run 1 refl) refl (λ e. absurd (cc))
+steps_lead (suc (suc zero)) l = at_step 2 1 0x10008 (ins Bne 0 5 0 (neg_ℤ (pos 4))) (input_run 2 refl) refl (λ e. absurd (cc))
+steps_lead (suc (suc (suc zero))) l = at_step 3 1 0x10004 (ins Addi 5 5 0 (neg_ℤ (pos 1))) (input_run 3 refl) refl (λ e. absurd (cc))
+steps_lead (suc (suc (suc (suc zero)))) l = at_step 4 0 0x10008 (ins Bne 0 5 0 (neg_ℤ (pos 4))) (input_run 4 refl) refl (λ e. absurd (cc))
+steps_lead (suc (suc (suc (suc (suc zero))))) l = at_step 5 0 0x1000c (ins Ecall 0 0 0 (pos 0)) (input_run 5 refl) refl (λ e. absurd (cc))
+steps_lead (suc (suc (suc (suc (suc (suc k)))))) l = absurd (omega (arith, l))
+
+steady_none : Steady loop_input none 6
+steady_none = record { no_trap = input_ended 6 (omega arith); leads = steps_lead }
+
+none_reached : AreReached loop defaults none
+none_reached e a t = absurd (cc)
+
+-- the output ends with the input's values
+none_kept : (m : ℕ) × Halves loop_input (after_input loop_input 6) (after_output loop_output zeros m) × ((after_output loop_output zeros m).outcome ≡ Ended)
+none_kept =
+    let p = tests_kept loop defaults loop_blocks loop_words.0 loop_plan loop_words.1 loop_told none none_reached zeros zeros_start in
+    (arrival loop_input loop_output 32 120 zeros 6, p.halves 6 steady_none, (p.ends 6 steady_none).1 (ap (λ s. s.outcome) input_end))
