@@ -42,6 +42,7 @@ next:
 COMMANDS = [
     ("transform in out", None),
     ("transform in out --sweep --diverse", "old"),
+    ("transform in out --lean --land", None),
     ("transform out out", "in"),
     ("transform text out", "old"),
     ("transform absent out", None),
