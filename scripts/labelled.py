@@ -9,6 +9,7 @@ are the same bytes in the same places, so COPY runs as OUT does. (objcopy --add-
 has, which are the test's halves.) Python's standard library alone.
 """
 
+import argparse
 import struct
 import sys
 
@@ -67,14 +68,22 @@ def labelled(data):
 
 def main():
     """Reads OUT and stores COPY."""
-    if len(sys.argv) != 3:
-        sys.exit("scripts/labelled.py OUT COPY")
-    with open(sys.argv[1], "rb") as file:
-        data = file.read()
-    if data[:4] != b"\x7fELF" or ".qed.map" not in (name for name, _ in sections_of(data)[1]):
-        sys.exit(f"{sys.argv[1]} is no output of `qed transform`")
-    with open(sys.argv[2], "wb") as file:
-        file.write(labelled(data))
+    parser = argparse.ArgumentParser(usage=__doc__)
+    parser.add_argument("out", metavar="OUT")
+    parser.add_argument("copy", metavar="COPY")
+    asked = parser.parse_args()
+    try:
+        with open(asked.out, "rb") as file:
+            data = file.read()
+        if data[:4] != b"\x7fELF" or ".qed.map" not in (name for name, _ in sections_of(data)[1]):
+            raise ValueError
+        copy = labelled(data)
+        with open(asked.copy, "wb") as file:
+            file.write(copy)
+    except OSError as error:
+        sys.exit(f"labelled.py: {error.filename}: {error.strerror}")
+    except (ValueError, LookupError, OverflowError, struct.error):
+        sys.exit(f"labelled.py: {asked.out} is not an output of `qed transform`")
 
 
 main()
