@@ -34,8 +34,8 @@ loop_input = loaded_file loop
 abbrev pub loop_output : Program
 loop_output = loaded_file (file_read (woven_file loop defaults loop_blocks loop_words.0))
 
-loop_kept : KeptInStep loop_input loop_output any_address 4096 32 120
-loop_kept = tests_kept loop defaults loop_blocks loop_words.0 loop_plan loop_words.1 loop_told any_address (any_reached loop defaults refl)
+loop_kept : (reached : ℕ → Bool) → AreReached loop defaults reached → KeptInStep loop_input loop_output reached 4096 32 120
+loop_kept = tests_kept loop defaults loop_blocks loop_words.0 loop_plan loop_words.1 loop_told
 
 loop_landed : LandedInStep 4 loop_input loop_output any_address loop_plan.entries 32 120
 loop_landed = tests_landed loop defaults loop_blocks loop_words.0 loop_words.1 any_address (any_reached loop defaults refl)
@@ -91,12 +91,16 @@ input_ended n l =
     ap (λ s. is_trapped s.outcome) (stays ∙ input_end)
 
 -- after some steps, and not more than 872, the output has ended with what the input has at its end
-kept_end : (m : ℕ) × (m ≤ 872) × Halves loop_input (after_input loop_input 6) (after_output loop_output zeros m) × ((after_output loop_output zeros m).outcome ≡ Ended)
-kept_end =
-    let p = loop_kept zeros zeros_start in
-    let steady = (steady_any loop_input 6).1 (input_ended 6 (omega arith)) in
+kept_with :
+    (reached : ℕ → Bool) → AreReached loop defaults reached → Steady loop_input reached 6
+    → (m : ℕ) × (m ≤ 872) × Halves loop_input (after_input loop_input 6) (after_output loop_output zeros m) × ((after_output loop_output zeros m).outcome ≡ Ended)
+kept_with reached aims steady =
+    let p = loop_kept reached aims zeros zeros_start in
     let within = p.within 6 in
     (arrival loop_input loop_output 32 120 zeros 6, omega (arith, within), p.halves 6 steady, (p.ends 6 steady).1 (ap (λ s. s.outcome) input_end))
+
+kept_end : (m : ℕ) × (m ≤ 872) × Halves loop_input (after_input loop_input 6) (after_output loop_output zeros m) × ((after_output loop_output zeros m).outcome ≡ Ended)
+kept_end = kept_with any_address (any_reached loop defaults refl) ((steady_any loop_input 6).1 (input_ended 6 (omega arith)))
 
 -- after 30 steps it stands at the entry of 0x10000
 at_entry : ((after_output loop_output zeros 30).outcome ≡ Going) × ((after_output loop_output zeros 30).pc ≡ 0x13078)
@@ -144,8 +148,5 @@ steady_none = record { no_trap = input_ended 6 (omega arith); leads = steps_lead
 none_reached : AreReached loop defaults none
 none_reached e a t = absurd (cc)
 
--- the output ends with the input's values
-none_kept : (m : ℕ) × Halves loop_input (after_input loop_input 6) (after_output loop_output zeros m) × ((after_output loop_output zeros m).outcome ≡ Ended)
-none_kept =
-    let p = tests_kept loop defaults loop_blocks loop_words.0 loop_plan loop_words.1 loop_told none none_reached zeros zeros_start in
-    (arrival loop_input loop_output 32 120 zeros 6, p.halves 6 steady_none, (p.ends 6 steady_none).1 (ap (λ s. s.outcome) input_end))
+none_kept : (m : ℕ) × (m ≤ 872) × Halves loop_input (after_input loop_input 6) (after_output loop_output zeros m) × ((after_output loop_output zeros m).outcome ≡ Ended)
+none_kept = kept_with none none_reached steady_none
