@@ -1,4 +1,4 @@
-//! The bounds, in steps, that are promised of a test that was transformed.
+//! The bounds, in steps, that a transformed test keeps.
 #![tactic(auto)]
 
 mod lean;
