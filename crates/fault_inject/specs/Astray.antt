@@ -14,7 +14,7 @@ is_jalr None = false
 is_jalr (Some i) = is_indirect (class_of i.kind)
 
 -- the next step is a JALR, and the state goes on behind it, at an address that is not reached; false if the state has
--- stopped, or if the target is no multiple of 4
+-- stopped, or if the target is not a multiple of 4
 unfoldable pub is_astray : (ℕ → Bool) → State → Bool
 is_astray reached s = is_jalr (known_at s s.pc) && (goes_on (step s).outcome && not (reached (step s).pc))
 

@@ -23,7 +23,7 @@ abbrev pub lines : (ℕ → ℕ) → List ℕ → List ℕ
 lines word [] = []
 lines word (a ∷ rest) = line a (word a) ++ lines word rest
 
--- the lines of all code words, which are those of the loaded image
+-- the lines of all code words, as the loaded image has them
 pub record IsListing (f : ElfFile) (text : List ℕ) : Type 0 where
   pub addresses : List ℕ
   pub all : AreWordAddresses f addresses
