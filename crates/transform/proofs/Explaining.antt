@@ -1,4 +1,4 @@
--- What is told of the new code of a test.
+-- The limits of the new code of a test fit its room.
 use Rattle.std.proofs.Common.{◌≡◌, ℕ, ◌*◌, ◌≤◌, Option, Some, None, List, length, map, arith, ◌∙◌, sym, ap, subst}
 use Rattle.elf_types.specs.declared.file.ElfFile.{ElfFile}
 use Rattle.tests.specs.declared.options.Options.{Options}
