@@ -14,7 +14,7 @@ use Rattle.campaign.proofs.Leaping.{on_made, stopped_not}
 use Rattle.campaign.proofs.Stopping.{progress_state}
 
 -- ---- how far a run is struck
--- a run that makes no more steps has stopped, or has made all
+-- the reach of a run: it stopped before it made all steps asked for, or it made 1,000,000
 pub reach_made :
     (s : State) (made n more reach : ℕ) (p q : Progress) → IsOn s made p.state → q ≡ progress p n → AreMade p n more → made + more ≡ reach → reach ≤ 1000000 → (more < n) ⊎ (reach ≡ 1000000)
     → IsReach s reach

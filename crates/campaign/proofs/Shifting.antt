@@ -22,7 +22,7 @@ use Rattle.campaign.proofs.Stopping.{going_before, behind}
 unchanged_before : (s : State) (cs : List Change) (n : ℕ) → AllFrom (n + 1) cs → changed_run s cs n ≡ run s n
 unchanged_before s cs n from = ap (λ p. p.state) (not_made (begun s) [] cs n from) ∙ run_unchanged s n
 
--- the run up to the first changes is the one without changes
+-- the run up to the first changes: the run without changes, then the changes at its step
 up_to : (s : State) (cs : List Change) (m : ℕ) → AllFrom m cs → changed_run s cs m ≡ with_changes cs m (run s m)
 unfolding changed_run run
 up_to s cs zero from = refl
@@ -72,7 +72,7 @@ ordered_later [] m o = tt
 ordered_later (c ∷ []) m o = tt
 ordered_later (c ∷ d ∷ cs) m o = (omega (arith, o.0), ordered_later (d ∷ cs) m o.1)
 
--- all changes come at the first or behind it
+-- if the first change does not come before m, none does
 pub from_first : (cs : List Change) (m : ℕ) → Ordered cs → m ≤ first_step cs → AllFrom m cs
 from_first [] m o h = tt
 from_first (c ∷ []) m o h = (h, tt)
@@ -191,7 +191,7 @@ strike_shows input output v bounds cs later m b r bound o h is_output is_later x
     let from_both : Shows (run input m) (run output m) b (all_from m cs) r = subst (λ ds. Shows (run input m) (run output m) b ds r) is_later from_output in
     subst (λ k. Shows input output k cs r) same (shows_later input output b cs m r (from_first cs m o h) (last_from cs m o h) from_both)
 
--- the input's trap, in terms of the start
+-- the input's trap, known from the start, in terms of the later state
 pub trap_later :
     (input : State) (cs later : List Change) (m b : ℕ) (pc : Option ℕ) → Ordered cs → m ≤ first_step cs → later ≡ all_from m cs
     → pc ≡ trap_pc_of (run input (last_step cs + b)).outcome → pc ≡ trap_pc_of (run (run input m) (last_step later + b)).outcome

@@ -78,7 +78,7 @@ is_silent s cs b o x = record {
   no_end = λ k f. let n : verdict_of Ended 0 ≡ None = subst (λ h. verdict_of h 0 ≡ None) (at_end s cs b Ended k o f) x.shows_none in cc;
 }
 
--- a run that stopped by a trap is trapped when the bound is over
+-- an outcome without a verdict has none, whatever the number of steps
 no_verdict : (o : Outcome) (k : ℕ) → verdict_of o k ≡ None → verdict_of o 0 ≡ None
 no_verdict Going k e = refl
 no_verdict Ended k e = absurd (cc)

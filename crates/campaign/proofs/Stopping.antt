@@ -77,7 +77,7 @@ pub record StopsBy (states : ℕ → State) (n : ℕ) : Type 0 where
   pub within : steps ≤ n
   pub stops : StopsAt states steps
 
--- a run goes on below n, or stops before
+-- a run goes on below n, or stops after at most n
 below : (states : ℕ → State) (n : ℕ) → ((k : ℕ) → k < n → (states k).outcome ≡ Going) ⊎ StopsBy states n
 below states zero = inl (λ k h. absurd (omega arith))
 below states (suc n) = more (below states n) (going_or (states n).outcome) where

@@ -133,7 +133,7 @@ ordered_drop [] (suc k) o = tt
 ordered_drop (c ∷ []) (suc k) o = ordered_drop [] k tt
 ordered_drop (c ∷ d ∷ cs) (suc k) o = ordered_drop (d ∷ cs) k o.1
 
--- changes in order come no earlier than the first
+-- if the first of ordered changes comes at t or later, so do all
 ordered_from : (t : ℕ) (c : Change) (cs : List Change) → t ≤ c.step → Ordered (c ∷ cs) → AllFrom t cs
 ordered_from t c [] h o = tt
 ordered_from t c (d ∷ cs) h o = (omega (arith, h, o.0), ordered_from t d cs (omega (arith, h, o.0)) o.1)

@@ -64,7 +64,7 @@ first_same : (r : ℕ → Bool) (f g : ℕ → State) (n : ℕ) → ((j : ℕ) �
 unfolding first first_jump
 first_same r f g n same = from_same r f g 0 n (λ j le lt. same j (omega (arith, lt)))
 
--- the first, in a states or in b more
+-- the first, in a states and then in b more
 first_more : (r : ℕ → Bool) (f : ℕ → State) (a b : ℕ) → first_jump r f (a + b) ≡ option_or (first_jump r f a) (first_jump r (λ j. f (a + j)) b)
 unfolding first first_jump
 first_more r f a b =

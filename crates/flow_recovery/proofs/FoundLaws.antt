@@ -82,7 +82,7 @@ recent_covers c f u r = record { kept = λ k. k; each = λ k a at. by k a at (le
       let is : covers c f a ≡ true = or_left (has_address f.reached a) (list_any (λ v. once c.test.now c.test.now.code 3 v a) f.pointers.items) (k u a r at e) in
       is ∙ sym (or_right (covers c f a) true refl)
 
--- a constant to remember
+-- one place remembers another constant
 pub set_recent : (xs : List (Option ℕ)) (i v u : ℕ) → is_recent (slice_set xs i (Some v)) u ≡ true → (is_recent xs u || (v == u)) ≡ true
 set_recent [] i v u e = absurd (false≢true e)
 set_recent (x ∷ xs) zero v u e = ⊎_elim (λ h. or_right (is_at x u || is_recent xs u) (v == u) h) (λ h. or_left (is_at x u || is_recent xs u) (v == u) (or_right (is_at x u) (is_recent xs u) h)) (or_cases (v == u) (is_recent xs u) e)
@@ -91,7 +91,7 @@ set_recent (x ∷ xs) (suc i) v u e =
     (λ h. ⊎_elim (λ k. or_left (is_at x u || is_recent xs u) (v == u) (or_right (is_at x u) (is_recent xs u) k)) (λ k. or_right (is_at x u || is_recent xs u) (v == u) k) (or_cases (is_recent xs u) (v == u) (set_recent xs i v u h)))
     (or_cases (is_at x u) (is_recent (slice_set xs i (Some v)) u) e)
 
--- room for one more
+-- one more free place remembers nothing
 pub none_more : (xs : List (Option ℕ)) → ((u : ℕ) → is_recent xs u ≡ false) → (u : ℕ) → is_recent (xs ++ None ∷ []) u ≡ false
 none_more xs h u = list_any-append (λ s. is_at s u) xs (None ∷ []) ∙ ap (λ b. b || false) (h u)
 

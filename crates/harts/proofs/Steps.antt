@@ -81,7 +81,7 @@ set_same [] i x e = refl
 set_same (y ∷ xs) zero x e = let is : y ≡ x = cc in ap (λ z. z ∷ xs) (sym is)
 set_same (y ∷ xs) (suc i) x e = ap (λ zs. y ∷ zs) (set_same xs i x e)
 
--- a change of no hart changes nothing
+-- a list without changes changes nothing
 made_same : (o : Option Hart) (i n : ℕ) (w : World) → slice_get w.harts i ≡ o → made_of o i (with_changes [] n) w ≡ w
 unfolding with_changes
 made_same None i n w e = refl

@@ -80,7 +80,7 @@ module _ (gs : List Program) (cs : ℕ → List Change) where
     at false i g e k = subst NotTrapped (run_there cs t i ts g (eqb-false t i k)) (a.no_trap i g e)
 
   -- ---- before the first turn
-  -- the states while the changes of the harts below n are made
+  -- the states after the changes at step 0 of the harts below n
   firsts : ℕ → ℕ → Program → State
   firsts n i g = cond (nat_lt i n) (with_changes (cs i) 0 (start g zeros)) (start g zeros)
 

@@ -75,7 +75,7 @@ module _ (rows : List EntryRow) (ascend : AllPairs (λ r t. r.input < t.input) r
     pub entry_here : (d : EntryRow) → place < length rows → (get_or rows place d).input ≡ a → Some (get_or rows place d).output ≡ entry_at rows a
     entry_here d lt e = sym (found_at rows a place d lt (λ k x l. before k x l) e)
 
-    -- behind all rows there is no entry
+    -- behind all rows nothing is found
     pub entry_past : length rows ≤ place → None ≡ entry_at rows a
     entry_past le = sym (not_found rows a (λ k d lt e. let b = before k d (omega (arith, le, lt)) in absurd (omega (arith, b, e))))
 

@@ -71,7 +71,7 @@ module _ (c : ℕ → Fetched) (s : State) (i : Ins) where
     stepped : (k : Class) → class_of i.kind ≡ k → step s ≡ execute k i s
     stepped k e = step-class s i k o.going (known_at c s i o known) e
 
-    -- the target of the step by its class
+    -- if the step goes on to the next word, an EBREAK stands there
     behind : (k : Class) → class_of i.kind ≡ k → (k ≡ class.Branch → ⊥) → (k ≡ class.Jump → ⊥) → (k ≡ class.JumpReg → ⊥) → NoBreak c (s.pc + 4) → ⊥
     behind k e b j r n =
         let x = stepped k e in

@@ -12,7 +12,7 @@ use Rattle.qed_model.specs.Promise.Kept.{after_input, after_output, is_mapped, H
 use Rattle.qed_model.specs.Promise.OwnSteps.{each_below, first_from, has_ended, has_byte, has_values, arrival}
 
 -- ---- the first number that passes
--- the least number by a choice
+-- the choice between k and a greater number is at least k
 chosen_low : (b : Bool) (k x : ℕ) → suc k ≤ x → k ≤ cond b k x
 chosen_low true k x h = omega arith
 chosen_low false k x h = omega (arith, h)
@@ -32,7 +32,7 @@ module _ (test : ℕ → Bool) where
   first_high zero k = omega arith
   first_high (suc n) k = let h = first_high n (suc k) in chosen_high (test k) k (first_from test n (suc k)) (k + suc n) (omega arith) (omega (arith, h))
 
-  -- a number that fails differs from one that passes
+  -- a number that fails lies before a later one that passes
   behind : (k m : ℕ) → k ≤ m → test k ≡ false → test m ≡ true → suc k ≤ m
   behind k m l fails passes = ⊎_elim (λ e. absurd (false≢true (sym fails ∙ ap test e ∙ passes))) (λ ne. omega (arith, l, ne)) (cases_eq k m)
 
@@ -131,7 +131,7 @@ module _ (f g : Program) (first bound : ℕ) (regs : List ℕ) where
   abbrev pub At : ℕ → ℕ → Type 0
   At n m = has_values f (after_input f n) (after_output g regs m) ≡ true
 
-  -- the output had the values of the earlier steps in their order
+  -- the output had the values of the input's first steps in their order
   abbrev pub Marks : ℕ → ℕ → Type 0
   Marks zero m = At 0 m
   Marks (suc n) m = (k : ℕ) × (k < m) × Marks n k × At (suc n) m

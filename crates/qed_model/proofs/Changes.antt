@@ -26,7 +26,7 @@ pub first_last : (c : Change) (cs : List Change) → Ordered (c ∷ cs) → c.st
 first_last c [] o = omega arith
 first_last c (d ∷ cs) o = let k = first_last d cs o.1 in omega (arith, o.0, k)
 
--- the rest ends at the list's last step
+-- the rest ends no later than the list
 pub rest_last : (c : Change) (cs : List Change) (t : ℕ) → last_step (c ∷ cs) ≤ t → last_step cs ≤ t
 rest_last c [] t h = omega arith
 rest_last c (d ∷ cs) t h = h

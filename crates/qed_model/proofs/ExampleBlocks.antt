@@ -167,7 +167,7 @@ module _ (f : ElfFile) (from : ℕ) (code : List Ins) (known : IsCodeOf f from c
       no_leader (b + 4 * suc k) (ap is_begun (sym at) ∙ none_there is (b + 4) k e (omega (arith, l)))
 
   -- ---- the blocks of leaders
-  -- the instructions behind a front, and the body behind it, up to a further instruction
+  -- a body of runs behind a front of instructions, up to a further instruction
   module _ (front : List Ins) (runs : List (List Ins)) (i : Ins) (rest : List Ins) (split : code ≡ front ++ (whole runs ++ i ∷ rest)) (cut : are_runs runs ≡ true) where
     abbrev start : ℕ
     start = from + 4 * length front

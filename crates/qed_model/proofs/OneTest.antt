@@ -71,7 +71,7 @@ reached_by f o t a told r = subst (λ u. is_reached f u a ≡ true) (test_only f
 pub are_reached : (f : ElfFile) (o : Options) (t : Test) → IsTestOf f o t → AreReached f o (is_reached f t)
 are_reached f o t told only a e = record { test = t; told = told; reached = e }
 
--- if all code addresses have entries, any set of addresses will do
+-- if all code addresses have entries, any address may count as reached
 pub any_reached : (f : ElfFile) (o : Options) → o.entries ≡ entries.All → AreReached f o any_address
 any_reached f o all only a e = absurd (apart (sym all ∙ only)) where
   apart : entries.All ≡ entries.Reached → ⊥

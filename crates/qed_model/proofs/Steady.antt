@@ -3,7 +3,7 @@ use Rattle.std.proofs.Common.{ℕ, ◌↔◌, List, refl}
 use Rattle.machine.specs.Program.{Program, AreStartRegs}
 use Rattle.qed_model.specs.Promise.Kept.{after_input, NotTrapped, Steady, any_address, Preserved, NoFalseAlarm, Kept}
 
--- steady and untrapped mean one thing
+-- a run is steady exactly if it does not trap
 pub steady_any : (f : Program) (n : ℕ) → Steady f any_address n ↔ NotTrapped (after_input f n)
 steady_any f n = (λ s. s.no_trap, λ h. record { no_trap = h; leads = λ k l i going at jumps. refl })
 

@@ -61,7 +61,7 @@ pub made_tells : (bytes : List ℕ) (o : Options) (Uses : Type 0) (name : Option
 made_tells bytes o Uses name answer h (refused r) = refusal_tells (refusal_status r.error) name answer (refusal_refuses r.error) r.plain
 made_tells bytes o Uses name answer h (made m) = h m
 
--- a failed store is one of that name
+-- without a failed store of this name, the answer's store did not fail
 pub no_store :
     (name : Option (List ℕ)) (stored : Option Stored) (rose : List ℕ → Type 0) → IfSome stored (λ s. name ≡ Some s.name)
     → IfSome name (λ n. rose n → ⊥) → StoreRose stored rose → ⊥

@@ -16,7 +16,7 @@ more_files : (before : List Argument) (a : Argument) → length (files (before +
 unfolding files
 more_files before a = ap length (filter_map-append name_in before (a ∷ [])) ∙ length-append (filter_map name_in before) (filter_map name_in (a ∷ []))
 
--- a reason that does not apply, in front of another
+-- without any reason, neither this one nor another applies
 pub said_first : (test : Bool) (reason : Reason) (other : Option Reason) → (if test then Some reason else other) ≡ None → (test ≡ false) × (other ≡ None)
 said_first true reason other e = cc
 said_first false reason other e = (refl, e)
@@ -46,6 +46,6 @@ none_yet : (command : Command) → length (files []) ≤ (row_of command).most_f
 unfolding files
 none_yet command = omega arith
 
--- if no argument is wrong
+-- if no argument is wrong, the files are no more than the command takes
 pub few_files : (command : Command) (given : List Argument) → first_wrong command [] given ≡ None → length (files given) ≤ (row_of command).most_files
 few_files command given e = all_fit command [] given e (none_yet command)

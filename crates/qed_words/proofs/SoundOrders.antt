@@ -50,7 +50,7 @@ IsNumbered key = (count : ℕ) (value : List ℕ) → wrong_value count key valu
 abbrev IsInRange : Key → ℕ → Type 0
 IsInRange key n = is_in_range (option_of key).value n ≡ true
 
--- a test that gives no reason fails
+-- without the reason the test holds
 said_else : (test : Bool) (reason : Reason) → (if test then None else Some reason) ≡ None → test ≡ true
 said_else true reason e = refl
 said_else false reason e = cc

@@ -33,7 +33,7 @@ unfolding data_bytes
 small_data k = small_numbers 256 (λ i. i) k
 
 -- ---- segments
--- the facts on a segment for which its bytes matter
+-- a segment in bounds: its bytes fit it, it fits memory, and each is a byte
 record IsLoad (l : LoadSegment) : Type 0 where
   sized : length l.bytes ≤ l.size
   fit : l.address + l.size ≤ 2 ^ 64

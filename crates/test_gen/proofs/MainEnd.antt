@@ -14,7 +14,7 @@ use Rattle.test_gen.proofs.MainRun as in_main
 use Rattle.test_gen.proofs.MainRun.{IsMade, IsSet, IsIn, Comes, branch_taken, branch_not}
 
 module _ (m : Memory) (ranges : List (ℕ × ℕ)) (seed n : ℕ) (made : IsMade m ranges seed n) (some : 1 ≤ n) where
-  -- what stays if a register of `main` is set
+  -- the state of `main` after its table register is set
   set_table : (s : State) (pc to table next rounds left : ℕ) → IsIn m ranges seed n made s pc table rounds left → (a : IsSet m ranges seed n made s to 4 next) → IsIn m ranges seed n made a.end to next rounds left
   set_table s pc to table next rounds left h a = record { good = a.good; zero_is = a.others 0 refl ∙ h.zero_is; base = a.others 2 refl ∙ h.base; at = a.at; table_is = a.is; rounds_are = a.others 8 refl ∙ h.rounds_are; left_are = a.others 9 refl ∙ h.left_are }
 

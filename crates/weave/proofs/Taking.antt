@@ -23,7 +23,7 @@ pub record UpTo (old now : Bool × ℕ → List (Role × List Item) → List (Ro
 pub begun : (old : Bool × ℕ → List (Role × List Item) → List (Role × List Item) → Type 0) (items : List Item) (all : List (Role × List Item)) → Comes old items all → UpTo old old items all all
 begun old items all c = record { done = []; whole = refl; took = λ form done rest t. subst (λ l. old form l rest) (sym (append-nil done)) t; come = c.come; none = c.none }
 
--- a sink was put beside no items
+-- before the first part: the sink as it was, and no items
 pub started :
     {S : Type 0} (took : S → Bool × ℕ → List (Role × List Item) → List (Role × List Item) → Type 0) (sink now : S) (items : List Item) (all : List (Role × List Item))
     → now ≡ sink → items ≡ [] → ComeNext (took sink) all → UpTo (took sink) (took now) items all all
@@ -36,7 +36,7 @@ started took sink now items all same none come =
 pub ended : (old now : Bool × ℕ → List (Role × List Item) → List (Role × List Item) → Type 0) (items : List Item) (all : List (Role × List Item)) → UpTo old now items all [] → Handed old now items all
 ended old now items all g = record { none = g.none; took = subst (Takes old now) (sym (append-nil g.done) ∙ sym g.whole) g.took }
 
--- items put behind no items
+-- items put behind none are all items
 put_alone : (items put xs : List Item) → put ≡ items ++ xs → items ≡ [] → put ≡ xs
 put_alone items put xs e none = e ∙ ap (λ l. l ++ xs) none
 

@@ -30,7 +30,7 @@ changed_there s c n e =
     ∙ ap (λ u. changed c (step u)) (unchanged s c n (omega (arith, e)))
     ∙ ap (changed c) (sym (run-last s n) ∙ ap (run s) next)
 
--- whether a register is closed, by the next instruction, the one behind it, and the one behind it if it is a guard
+-- whether a register is closed, by the next instruction, the one behind it, and the one where it ends as a guard
 abbrev pub closed_by : ℕ → Ins → Ins → Ins → Bool
 closed_by r i m j = (nat_le 1 r && nat_le r LAST_ORIGINAL) && ((uses r (Known i) && not (is_checked (Known i) (Known m))) || (guards_other r (Known i) && uses r (Known j)))
 

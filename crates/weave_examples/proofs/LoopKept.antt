@@ -1,4 +1,4 @@
--- A known file, a test with a loop: the promise holds of it, and its run and that of its output are worked out on the definitions.
+-- A known file, a test with a loop: the promise holds of it; its run and its output's are computed by the definitions.
 use Rattle.std.proofs.Common.{◌≡◌, inl, inr, ℕ, zero, suc, ◌+◌, ◌-◌, ◌<◌, ◌≤◌, Bool, true, false, List, [], ◌∷◌, Some, refl, sym, ap, ◌∙◌, arith}
 use Rattle.std.specs.Prelude.{pos, neg_ℤ, replicate}
 use Rattle.rv_isa.specs.declared.class.Class.TheVariants as class
