@@ -166,8 +166,8 @@ fn has_every(test: &Test, options: &Options) -> bool
 }
 
 /// The blocks of the file that `test` is, in ascending order: one for each leader. If the code has
-/// a JALR and all code addresses have entries, each other code address has one too. A block's
-/// lengths add up to its body's. If the code ends at `top` or below, so do the bodies.
+/// a JALR and all code addresses have entries, each other code address has one too. The lengths of
+/// a block's pieces add up to its body's. If the code ends at `top` or below, so do the bodies.
 pub fn blocks(
     alloc: Global,
     test: &Test,

@@ -1,4 +1,4 @@
-//! The bounds, in steps, that a transformed test keeps.
+//! The promised bounds, in steps, of a transformed test.
 #![tactic(auto)]
 
 mod lean;

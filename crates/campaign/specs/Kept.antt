@@ -16,7 +16,7 @@ pub record IsReach (start : State) (steps : ℕ) : Type 0 where
   pub before : (k : ℕ) → k < steps → (run start k).outcome ≡ outcome.Going
   pub ends : ((run start steps).outcome ≢ outcome.Going) ⊎ (steps ≡ 1000000)
 
--- a copy for each 4,096 steps in which a run is struck, and one at the start
+-- how many copies there are: one for each 4,096 steps up to `reach`, and one at the start
 abbrev pub copies_up_to : ℕ → ℕ
 copies_up_to reach = reach / 4096 + 1
 

@@ -19,7 +19,7 @@ first_step [] = 0
 first_step (c ∷ cs) = c.step
 
 -- ---- one word
--- the address and the value of a single change of a word, made where counting begins
+-- the address and the value of a single change of a word at step 0
 abbrev pub word_changed : Place → ℕ → ℕ → Option (ℕ × ℕ)
 word_changed (Word a) step x = if step == 0 then Some (a, x) else None
 word_changed (Reg r) step x = None

@@ -50,7 +50,7 @@ pub record TrapsAt (input : State) (b : ℕ) (cs : List Change) (pc : ℕ) : Typ
   pub cause : Cause
   pub trapped : (run input (last_step cs + b)).outcome ≡ outcome.Trapped cause pc
 
--- the output goes on up to the last change, and each place is open where it is changed
+-- the output goes on up to the last change, and each place is open when it is changed
 pub record IsTried (output : State) (cs : List Change) : Type 0 where
   pub reached : GoesPast output cs
   pub opened : has_closed output cs ≡ false

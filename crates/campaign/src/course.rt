@@ -70,7 +70,7 @@ impl Course {
     ///
     /// # Errors
     ///
-    /// Those of `transform`.
+    /// The errors of `transform`.
     pub fn prepare(alloc: Global, input: &[u8], options: &Options) -> Result<Course, TransformError>
         requires { AreSoundOptions options.now }
         ensures done { IfOk result (IsCourse input.now options.now) }
@@ -148,7 +148,7 @@ impl Course {
         drawn_strikes(alloc, &self.plan, self.runs.reach(), draws)
     }
 
-    /// Strikes one after another, each from the start of the runs, up to the first whose input
+    /// Strikes one after another, from the start of the runs, up to the first whose input traps. Reports progress.
     /// traps.
     pub fn strike_all(
         &self,

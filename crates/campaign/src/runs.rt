@@ -30,7 +30,7 @@ use std::marker::Model;
 /// The most steps that an input is watched behind its reach.
 const MOST_BEHIND: u64 = 1_000_000;
 
-/// The runs of an input and of its output, with copies of the output after every 4,096 steps in which it is struck.
+/// The runs of an input and of its output, with copies of the output after every 4,096 steps up to its reach.
 #[derive(Drop)]
 pub struct Runs {
     input: Watched,
@@ -172,12 +172,12 @@ impl Runs {
         is_ordered(changes) && bound_of(&self.bounds, changes).is_some()
     }
 
-    /// What changes of the output's run show. Their steps do not fall; a change of a word needs a
-    /// bound for words.
+    /// What changes of the output's run show. A change of a word needs a bound for words. The steps
+    /// of the changes do not fall.
     ///
     /// # Errors
-    ///
-    /// `Trapped` if the input's own run traps within the bound, no check fires and the test does
+    /// `Trapped` if the input traps within the bound, no check fires and the test does not end
+    /// before, and no place is closed; `Memory`.
     /// not end before, and no place is closed; `Memory`.
     pub fn strike(&self, alloc: Global, changes: &[Change]) -> Result<Verdict, StrikeError>
         requires { IsStrike self.now.bounds changes.now }
@@ -255,7 +255,7 @@ impl Runs {
     }
 
     /// The verdicts of strikes, made in the order of their first changes, so that the output goes
-    /// along its run once. None where the input traps; after that, a verdict may be None.
+    /// along its run once. None for one whose input traps; behind that, any verdict may be None.
     fn verdicts(
         &self,
         alloc: Global,

@@ -13,7 +13,7 @@ use qed_model::{Change, Place};
 use rv_step::Machine;
 use std::alloc::AllocError;
 
-/// The address and the value of a single change of a word, made where counting begins.
+/// The address and the value of a single change of a word at step 0.
 pub fn one_word(changes: &[Change]) -> Option<(u64, u64)>
     ensures { result ≡ one_word_of changes.now }
 {

@@ -31,7 +31,7 @@ pub record IsSpared (a : ℕ) (s : State) : Type 0 where
   pub fetched : IsFar a s.pc 4
   pub touched : IsFar a (touched s) 8
 
--- what the first steps of a run touch, and the addresses that fetch them; each starts in a state that goes on
+-- what the first steps of a run touch, and between which addresses they are fetched; each from a state that goes on
 pub record IsTrace (s : State) (t : Trace) : Type 0 where
   pub places : t.places.items ≡ each (length t.places.items) (λ k. touched (run s k))
   pub going : (k : ℕ) → k < length t.places.items → (run s k).outcome ≡ Going

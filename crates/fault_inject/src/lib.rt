@@ -1,5 +1,5 @@
-//! Bugs and strikes in runs: they change registers and words of a machine while it runs. Also where
-//! a register is closed, and where an indirect jump leads astray.
+//! Bugs and strikes in runs: they change registers and words of a machine while it runs. It also
+//! finds closed registers, and indirect jumps that lead astray.
 #![tactic(auto)]
 
 mod places;

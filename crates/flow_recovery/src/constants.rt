@@ -120,7 +120,7 @@ fn makes_constant(ins: &Ins) -> bool
     matches!(ins.kind, Kind::Lui | Kind::Auipc) || adds_to(0, ins)
 }
 
-/// The constant that such a word makes.
+/// The constant that a word makes.
 fn constant(word: &CodeWord) -> u64
     ensures { result ≡ constant word.now.ins.kind word.now }
 {

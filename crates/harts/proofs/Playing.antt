@@ -57,7 +57,7 @@ idle_steps : (o : Option Hart) (i : ℕ) (ns : List ℕ) → IfSome o (λ h. goe
 idle_steps None i ns idle = refl
 idle_steps (Some h) i ns idle = ap (slice_set ns i) (as_many h.outcome (slice_index ns i) idle) ∙ set-get_or ns i 0
 
--- a turn of such a hart changes nothing
+-- a turn of a hart that does not go on changes nothing
 idle_turn : (c : Counted) (i : ℕ) → IfSome (slice_get c.world.harts i) (λ h. goes_on h.outcome ≡ false) → counted_turn i c ≡ c
 unfolding on_hart
 idle_turn c i idle =
@@ -68,7 +68,7 @@ idle_at : (c : Counted) (ds : List ℕ) (k : ℕ) (o : Option Hart) → AreIdle 
 idle_at c ds k None idle l e = tt
 idle_at c ds k (Some h) idle l e = idle.each k h l e
 
--- more turns of such harts change nothing
+-- more turns of harts that do not go on change nothing
 idle_more : (c s : Counted) (ds : List ℕ) (k n : ℕ) → AreIdle s ds → 0 < length ds → s ≡ counted_turns c (cycled ds k) → s ≡ counted_turns c (cycled ds (k + n))
 unfolding counted_turns cycled
 idle_more c s ds k zero idle some e = let none : k ≡ k + 0 = omega arith in e ∙ ap (λ m. counted_turns c (cycled ds m)) none

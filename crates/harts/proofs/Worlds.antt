@@ -78,7 +78,7 @@ module _ (hs : List HartState) (m n : Memory) (i : ℕ) (h k : HartState) (e : s
   steps_there : slice_get (map (λ h. h.steps) hs) i ≡ Some h.steps
   steps_there = slice_get-map (λ h. h.steps) hs i ∙ ap (option_map (λ h. h.steps)) e
 
-  -- a turn of such a hart
+  -- a turn of hart i
   pub turn_counted : with_memory k n ≡ advanced (with_memory h m) → counted (slice_set hs i k) n ≡ counted_turn i (counted hs m)
   unfolding advanced
   turn_counted is =
@@ -89,7 +89,7 @@ module _ (hs : List HartState) (m n : Memory) (i : ℕ) (h k : HartState) (e : s
       (ap (λ p. p.state.memory) is ∙ sym t.memory)
       (map-set (λ h. h.steps) hs i k ∙ ap (λ p. slice_set (map (λ h. h.steps) hs) i p.steps) is ∙ ap (λ x. slice_set (map (λ h. h.steps) hs) i (steps_after h.outcome x)) (sym was) ∙ sym t.steps)
 
-  -- a change of such a hart
+  -- a change of hart i
   pub strike_counted : (p : Place) (x : ℕ) → with_memory k n ≡ struck_progress p x (with_memory h m) → counted (slice_set hs i k) n ≡ counted_strike i p x (counted hs m)
   strike_counted p x is =
       let t = struck_is (counted hs m) i p x (bare h) hart_there in

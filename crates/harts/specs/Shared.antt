@@ -30,7 +30,7 @@ abbrev pub AreSound : List Program → Type 0
 AreSound [] = Unit {0}
 AreSound (g ∷ gs) = AllFitMemory g.segments × AreApart g.segments × AreSound gs
 
--- no two files share a byte: they are apart, and all segments together make one memory
+-- files that share no byte: they are apart, and all segments together make one memory
 pub record FilesApart (gs : List Program) : Type 0 where
   pub files : FilesAreApart gs
   pub fit : AllFitMemory (all_segments gs)

@@ -11,7 +11,7 @@ pub enum HartsError {
     /// PT_LOAD segments of two files share a byte: the files' numbers in the list, from 0, the lower one first.
     #[error("files {0} and {1}")]
     Shared(u64, u64),
-    /// Memory is exhausted.
+    /// Memory ran out.
     #[error("out of memory")]
     Memory,
 }

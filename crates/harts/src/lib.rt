@@ -30,7 +30,7 @@ pub fn hart_promises()
     ensures { PerHart }
 {}
 
-/// Without changes each hart stands as a run of its file does, with as many steps.
+/// As `harts_together`, without changes: each hart stands as a run of its file does, with as many steps.
 pub fn turns_run()
     ensures counted { CountedTogether }
     ensures plain { TurnsRun }

@@ -9,7 +9,7 @@ use Rattle.rv_text.specs.Text.{text_of}
 abbrev pub has_word : ElfFile → ℕ → Bool
 has_word f a = (a % 4 == 0) && in_range a (ranges_of f)
 
--- all such addresses, in ascending order
+-- all addresses of code words, in ascending order
 pub record AreWordAddresses (f : ElfFile) (addresses : List ℕ) : Type 0 where
   pub ascend : AllPairs (λ a b. a < b) addresses
   pub all : (a : ℕ) → Contains addresses a ↔ (has_word f a ≡ true)

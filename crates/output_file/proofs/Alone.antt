@@ -16,7 +16,7 @@ empty : (bytes : List ℕ) → length bytes ≤ 0 → [] ≡ bytes
 empty [] h = refl
 empty (b ∷ bytes) h = absurd (omega (arith, h))
 
--- no zeros stand before such a segment
+-- no zeros stand before a segment that begins the range
 laid_first : (start address : ℕ) (bytes : List ℕ) → address ≤ start → replicate (address - start - 0) 0 ++ (bytes ++ []) ≡ bytes
 laid_first start address bytes h = let none : address - start - 0 ≡ 0 = omega arith in rw none (append-nil bytes)
 

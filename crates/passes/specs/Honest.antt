@@ -35,7 +35,7 @@ pub data Checks (c : ℕ → Fetched) (a : ℕ) (i : Ins) : Type 0 where
   words : (b : ℕ) → i ≡ word_check → a ≡ b + 12 → VisitWords c b → Checks c a i
   signs : (b t : ℕ) → i ≡ sign_check → a ≡ b + 8 → EntryWords c b t → Checks c a i
 
--- an instruction of a class leads to no EBREAK, unless it is such a comparison and fails; a JALR may lead anywhere
+-- an instruction of a class leads to no EBREAK, unless it is a comparison that fails; a JALR may lead anywhere
 abbrev pub HonestAs : Class → (ℕ → Fetched) → ℕ → Ins → Type 0
 HonestAs class.Branch c a i = NoBreak c ((a + imm i) % 2 ^ 64) × (c (a + 4) ≡ ebreak → Checks c a i)
 HonestAs class.Jump c a i = NoBreak c ((a + imm i) % 2 ^ 64)
@@ -45,7 +45,7 @@ HonestAs class.End c a i = Unit {0}
 HonestAs class.Illegal c a i = Unit {0}
 HonestAs _ c a i = NoBreak c (a + 4)
 
--- each of some words, from an address on, leads to no EBREAK, unless it is such a comparison and fails
+-- each of some words, from an address on, leads to no EBREAK, unless it is a comparison that fails
 abbrev pub AllHonest : (ℕ → Fetched) → ℕ → List Ins → Type 0
 AllHonest c a [] = Unit {0}
 AllHonest c a (i ∷ is) = HonestAs (class_of i.kind) c a i × AllHonest c (a + 4) is

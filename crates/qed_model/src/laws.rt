@@ -3,7 +3,7 @@ ghost use Rattle.qed_model.specs.Promise.InStep.{PromisesFollow};
 ghost use Rattle.qed_model.specs.Weave.Output.{InputHasOneOutput};
 ghost use Rattle.qed_model.specs.Weave.Woven.{RolesCover};
 
-/// With given options a file has one output: its bytes are determined.
+/// With given options, given bytes have one output.
 pub fn input_has_one_output()
     ensures { InputHasOneOutput }
 {}

@@ -6,9 +6,9 @@ use rv_isa::Reg;
 /// of x1 to x13 with their pairs, or of x14 with x30.
 #[derive(Clone, Copy, Debug, PartialEq, Eq)]
 pub enum Role {
-    /// It runs first.
+    /// The words that run first.
     Start,
-    /// It tests the signature, at the entry of an address.
+    /// The test of the signature, at the entry of an address.
     Entry(u64),
     /// The instruction at an address, on the originals.
     Original(u64),

@@ -110,7 +110,7 @@ TellsNumber x a answer number =
     MatchOption number (PrintsOnly Refused (no_word_line a) answer)
     (λ n. IsSomeAnd (role_at x.roles.items (a - x.base)) (λ role. PrintsOnly Done (word_text role a (slice_index x.words.items n) x.file.symbols) answer))
 
--- such an answer has its status, and stores nothing
+-- the answer about a word has its status, and stores nothing
 role_told :
     (x : Explained) (a n : ℕ) (answer : Answer) (r : Option Role) → IsSomeAnd r (λ role. PrintsOnly Done (word_text role a (slice_index x.words.items n) x.file.symbols) answer)
     → (answer.status ≡ Done) × Tells None answer

@@ -70,7 +70,7 @@ takers_all : (count : ℕ) (turns : Option (List ℕ)) → AreTurns count turns 
 takers_all count None t = All-each (λ hart. hart < count) count (λ i. i) (λ j l. l)
 takers_all count (Some harts) t = t.below
 
--- some hart makes the turns, and each such hart is below the count
+-- some hart makes the turns, and each that does is below the count
 pub takers_some : (count : ℕ) (turns : Option (List ℕ)) (harts : List ℕ) → 1 ≤ count → AreTurns count turns → harts ≡ takers count turns → 0 < length harts
 takers_some count None harts some t e = let n = length-each count (λ i. i) in let m = ap length e in omega (arith, some, n, m)
 takers_some count (Some given) harts some t e = let m = ap length e in omega (arith, t.some, m)

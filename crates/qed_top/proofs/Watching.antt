@@ -32,7 +32,7 @@ reached_same f t d a =
     ap (λ b. (t.entry == a) || (list_any (λ c. links_to c a) t.code || (is_named_in f a || (list_any (is_in_data t.base a) t.segments || b)))) (all_made_same t d a t.code)
 
 -- ---- the reached words
--- an address with such a word is reached
+-- an address at which a reached word stands is reached
 one_reached : (f : ElfFile) (t : Test) (a : ℕ) (cs : List CodeWord) → list_any (λ c. (c.at == a) && is_reached f t c.at) cs ≡ true → is_reached f t a ≡ true
 one_reached f t a [] h = cc
 one_reached f t a (c ∷ cs) h =

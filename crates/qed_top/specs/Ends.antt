@@ -152,7 +152,7 @@ DecidesOver (Asm text output) bytes status = AsmDecides bytes status
 DecidesOver (Harts files turns steps) bytes status = ⊥
 DecidesOver (Tell topic) bytes status = status ≡ Done
 
--- the status of such an order, with the loading of the file
+-- the status of an order that reads at most one file, with the loading of the file
 abbrev pub SourceDecides : Order → Files → Status → Type 0
 SourceDecides order files status =
     MatchOption (source_name order) (DecidesOver order [] status)

@@ -79,7 +79,7 @@ AnswersOver (Asm text output) bytes answer = Assembles bytes output answer
 AnswersOver (Harts files turns steps) bytes answer = ⊥
 AnswersOver (Tell topic) bytes answer = PrintsOnly Done (told_text topic) answer
 
--- what such an order calls for, with the loading of the file; `rose` holds of a name whose count of failed loads rose
+-- what an order that reads at most one file calls for, with its loading; `rose` holds of a name whose failed loads rose
 abbrev pub SourceCallsFor : Order → Files → (List ℕ → Type 0) → Answer → Type 0
 SourceCallsFor order files rose answer =
     MatchOption (source_name order) (AnswersOver order [] answer)

@@ -32,7 +32,7 @@ pub record IsUnread (bytes : List ℕ) (answer : Answer) : Type 0 where
   pub cause : Refusals.IsRefused bytes error
   pub plain : PrintsOnly (error_status error) (error_line error) answer
 
--- the bytes are unread for such a reason, or they are a file with a further property
+-- the bytes are not read (E1 to E13, L5 or L10), or they are a file with a further property
 pub data ReadOn (bytes : List ℕ) (Next : ElfFile → Type 0) (answer : Answer) : Type 0 where
   not_read : IsUnread bytes answer → ReadOn bytes Next answer
   read_on : (f : ElfFile) → IsReadAs bytes f → Next f → ReadOn bytes Next answer

@@ -78,7 +78,7 @@ Runs bytes steps changes dump answer = ReadOn bytes (λ f. FileRuns f steps chan
 abbrev pub is_reached_word : ElfFile → Test → ℕ → Bool
 is_reached_word f t a = list_any (λ c. (c.at == a) && is_reached f t c.at) t.code
 
--- the first indirect jump to no such address, in `steps` steps of a file with changes, and its target
+-- the first indirect jump to no reached code word, in `steps` steps of a file with changes, and its target
 abbrev pub astray_of : ElfFile → Test → ℕ → List Change → Option (ℕ × ℕ)
 astray_of f t steps changes = first_astray (is_reached_word f t) (start (loaded_file f) zeros) changes steps
 

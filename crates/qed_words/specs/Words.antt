@@ -242,7 +242,7 @@ wrong_value count key text = wrong_text count key (option_of key).value text
 unfoldable pub wrong_values : List Argument → Key → Option Reason
 wrong_values given key = first_reason (map (wrong_value (length (files given)) key) (values key given))
 
--- what is wrong with the first wrong value of the first such option
+-- what is wrong with the first wrong value, option by option
 unfoldable pub first_wrong_value : Command → List Argument → Option Reason
 first_wrong_value command given = first_reason (map (wrong_values given) (row_of command).keys)
 

@@ -36,7 +36,7 @@ pub struct KeyRow {
     pub most: usize,
 }
 
-// A row: name, kind of value; then, where needed, the words that it may be and how often it may be given.
+// A row: name, kind of value; then, if needed, the words that it may be and how often it may be given.
 macro_rules! row {
     ($name:literal, $value:expr) => {
         row!($name, $value, [], 1)

@@ -67,7 +67,7 @@ fn wrong_values(arguments: &[Argument<'_>], key: Key) -> Option<Reason>
     None
 }
 
-/// What is wrong with the first wrong value of the first such option, in the command's order.
+/// What is wrong with the first wrong value, option by option in the command's order.
 #[tactic(auto, unfolding(crate::specs::Words::first_wrong_value))]
 pub fn first_wrong_value(command: Command, arguments: &[Argument<'_>]) -> Option<Reason>
     ensures { result ≡ first_wrong_value_of command (map seen arguments.now) }

@@ -1,4 +1,4 @@
-//! Finds entries by input address. Addresses ascend: by index if every word has an entry, else by bisection.
+//! Finds entries by their input addresses, which ascend: by index if every word has one, else by bisection.
 ghost use Rattle.std.specs.Prelude.{◌≡◌, ◌<◌, ◌≤◌, length, drop, slice_index_or, Some, IfSome};
 ghost use Rattle.qed_model.specs.declared.plan.EntryRow.{EntryRow};
 ghost use Rattle.qed_model.specs.Weave.Placed.{entry_at, leads_to, EntriesAscend};

@@ -24,7 +24,7 @@ fn outside_line(alloc: Global, high: u128, end: u64) -> Result<String, AllocErro
     }
 }
 
-/// The line about an address where no word of new code stands: N1.
+/// The line about an address at which no word of new code stands: N1.
 pub fn no_word_text(alloc: Global, address: u64) -> Result<Bytes, AllocError>
     ensures { IfOk result (λ text. text ≡ no_word_line address) }
 {

@@ -59,7 +59,7 @@ unfolding file_with
 with_functions seed n some few =
     file_admitted seed n (24 * (1 + length (symbols n))) (length (string_table (symbol_names (symbols n)))) (length (string_table (section_names (file_with seed n).sections))) some few
 
--- it has 1 to 1,875 functions
+-- a generated test has 1 to 1,875 functions
 pub few_functions : (size : ℕ) → 1 ≤ size → size ≤ 60000 → (1 ≤ function_count size) × (function_count size ≤ 1875)
 unfolding function_count
 few_functions size some most = (omega (arith, some), omega (arith, most))

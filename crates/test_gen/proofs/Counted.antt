@@ -81,7 +81,7 @@ few_steps : (size : ℕ) → 1 ≤ size → size ≤ 60000 → test_steps size �
 unfolding test_steps
 few_steps size some most = let n = few_functions size some most in omega (arith, n.1)
 
--- whatever its bytes are read as, its run from registers 0 ends
+-- from registers 0, the run of the file that its bytes are read as ends
 pub own_ended :
     (seed size m : ℕ) → 1 ≤ size → size ≤ 60000 → 213765 ≤ m → (f : ElfFile) → IsReadAs (written (generated seed size)) f
     → HasEnded (progress (begun (start (loaded_file f) zeros)) m) (test_steps size)

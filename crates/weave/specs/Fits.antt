@@ -22,7 +22,7 @@ abbrev pub FitsEnd : Option Ins → Type 0
 FitsEnd None = Unit {0}
 FitsEnd (Some i) = FitsLeave (class_of i.kind) i
 
--- a block below 2^64 with such an end; its body can be doubled and is all in pieces
+-- a block below 2^64; its body can be doubled and is all in pieces, and its end names no register above x13
 pub record FitsBlock (b : CodeBlock) : Type 0 where
   pub body : AllFit b.body
   pub end : FitsEnd b.end

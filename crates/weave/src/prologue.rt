@@ -17,7 +17,7 @@ use std::alloc::AllocError;
 
 /// Appends what sets `count` registers from x`first` on to 0.
 ///
-/// Errors: want of memory; then the appended items are left open.
+/// Errors: want of memory; what is appended then is left open.
 pub fn put_zeros(first: u8, count: u8, out: &mut Emit) -> Result<(), AllocError>
     requires { first + count ≤ 32 }
     ensures { OnOk result (out.new ≡ out.old ++ zero_from first count) }

@@ -16,7 +16,7 @@ use std::alloc::AllocError;
 
 /// Makes the parts of new code, and hands each on with its role.
 ///
-/// Errors: want of memory; then the parts handed on are left open.
+/// Errors: want of memory; what is handed on then is left open.
 pub trait Weaving {
     ghost use Rattle.machine.specs.declared.limits.Limit.{Limit};
     ghost use Rattle.qed_model.specs.Weave.Code.{Sequences};
