@@ -1,5 +1,4 @@
-//! The bounds. Sums use 128 bits. Each part is tested when it is added: no part exceeds the bound
-//! it belongs to.
+//! The bounds. Sums use 128 bits. Each part is tested when it is added: no part exceeds its bound.
 ghost use Rattle.std.specs.Prelude.{◌≡◌, ◌+◌, ◌-◌, ◌*◌, ◌/◌, ◌≤◌, ◌<◌, ◌^◌};
 ghost use Rattle.std.specs.Option.{SomeIff};
 ghost use Rattle.qed_model.specs.Weave.Bounds.{visit_bound, end_bound, start_steps, longest_piece, bounds_of};

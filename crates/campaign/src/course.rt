@@ -149,7 +149,6 @@ impl Course {
     }
 
     /// Strikes one after another, from the start of the runs, up to the first whose input traps. Reports progress.
-    /// traps.
     pub fn strike_all(
         &self,
         alloc: Global,

@@ -172,13 +172,12 @@ impl Runs {
         is_ordered(changes) && bound_of(&self.bounds, changes).is_some()
     }
 
-    /// What changes of the output's run show. A change of a word needs a bound for words. The steps
-    /// of the changes do not fall.
+    /// What changes of the output's run show. Steps do not fall; a change of a word needs a bound for words.
     ///
     /// # Errors
+    ///
     /// `Trapped` if the input traps within the bound, no check fires and the test does not end
     /// before, and no place is closed; `Memory`.
-    /// not end before, and no place is closed; `Memory`.
     pub fn strike(&self, alloc: Global, changes: &[Change]) -> Result<Verdict, StrikeError>
         requires { IsStrike self.now.bounds changes.now }
         ensures { IsVerdict self.now.input self.now.output self.now.bounds changes.now result }

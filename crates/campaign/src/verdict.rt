@@ -101,8 +101,7 @@ impl<'a> Strike<'a> {
         }
     }
 
-    /// The verdict of a machine that has made its changes; None if no check fires and it does not
-    /// end, in the bound.
+    /// The verdict of a machine that has made its changes; None if it neither fires nor ends in the bound.
     fn later_verdict(&self, machine: &mut Machine) -> Result<Option<Verdict>, AllocError>
         requires trace { IsTrace self.now.way.now.start self.now.trace.now }
         requires there { IsChangedAt (run self.now.way.now.start self.now.start) (one_word_of self.now.changes.now) machine.old.state }
