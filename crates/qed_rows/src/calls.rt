@@ -57,7 +57,7 @@ pub(crate) fn call(
     }
 }
 
-/// The answer to what words ask for.
+/// What words ask for, as text.
 fn ask(alloc: Global, words: &[String]) -> Result<String, AllocError> {
     let answer = order(alloc, words);
     format!(in alloc; "{answer:?}\n")
@@ -77,7 +77,7 @@ pub(crate) fn tell_call(
     }
 }
 
-/// The number of an exit code of the program.
+/// The number of an exit code from 0 to 7; else 255.
 fn number_of(code: ExitCode) -> u8 {
     for number in 0..=7 {
         if code == ExitCode::from(number) {

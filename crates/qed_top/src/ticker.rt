@@ -4,8 +4,8 @@ use campaign::Progress;
 use std::io::{Eprint, IsTerminal};
 use std::time::Instant;
 
-/// Prints on standard error, once a second, how many strikes or steps are made, in a line that is overwritten
-/// and removed at the end. Prints nothing if that is not a terminal, or without a clock.
+/// Prints on standard error, once a second, how many strikes or steps are made, in a line that is
+/// overwritten and removed at the end. Prints nothing without a terminal or a clock.
 #[derive(Drop)]
 pub(crate) struct Ticker<'a> {
     rt: &'a HostRuntime,

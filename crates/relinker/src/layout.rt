@@ -108,7 +108,7 @@ impl Layout {
         self.last
     }
 
-    /// Appends the words of the items that were counted next. It takes no memory.
+    /// Appends the words of items, the next of those counted. It takes no memory.
     pub fn add(&mut self, items: &Emit)
         requires { ComeNext (IsLaidIn self.old) items.now }
         ensures { Takes (IsLaidIn self.old) (IsLaidIn self.new) items.now }

@@ -2,8 +2,8 @@
 ghost use Rattle.relinker.specs.Joined.{PartsJoin};
 ghost use Rattle.relinker.specs.Laid.{OneCode};
 
-/// Counting and laying out part by part is counting and laying out all items. Laid out from one
-/// base, given items have one code, so `finish` returns what `link` returns.
+/// Items counted and laid out part by part give what all give at once. Laid out from one base,
+/// given items have one code, so `finish` returns what `link` returns.
 pub fn parts_join()
     ensures join { PartsJoin }
     ensures code { OneCode }
