@@ -19,7 +19,7 @@ use Rattle.block_split.specs.Built.{IsLongBlock, IsShortBlock, Begun, Built}
 use Rattle.block_split.specs.Listed.{end_of, block_of}
 use Rattle.block_split.proofs.BodyLaws.{instructions, Rest, rest_tail, above, rest_all, IsBody, body_is}
 
--- as equal leaders and words have it
+-- what was built, for equal leaders and words
 pub same_built :
     (every : Bool) (reached : ℕ → Bool) (most : ℕ) (bs : List CodeBlock) (ls ks : List ℕ) (ws vs : List CodeWord) → ls ≡ ks → ws ≡ vs
     → Built (lists ls) every reached most ws bs → Built (lists ks) every reached most vs bs
@@ -73,7 +73,7 @@ module _ (f : ElfFile) (o : Options) (leads : ℕ → Bool) (exact : (a : ℕ) �
         (subst (λ i. IsShortOf w.ins (divided ((if ends w then 0 else 1) ∷ []) (if ends w then [] else w.ins ∷ [])) (end_of i)) (sym s.end) (short_by w (ends w) refl)));
   }
 
-  -- marked or not
+  -- a long block, at a leader that is marked as reached or not
   long_marked : (low : ℕ) (w : CodeWord) (ws : List CodeWord) (b : CodeBlock) → Rest f low (w ∷ ws) → IsLongBlock leads reached o.inst_max (w ∷ ws) b → IsMarked f o (block_of b)
   long_marked low w ws b r l =
       let mark = marks w.at r.ascend.1 in

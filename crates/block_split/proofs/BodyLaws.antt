@@ -23,12 +23,12 @@ instructions ws = map (λ w. w.ins) ws
 
 module _ (f : ElfFile) where
   -- ---- words from an address on
-  -- they ascend, and each stands with its instruction
+  -- the words ascend, and each stands with its instruction
   abbrev pub Ascend : ℕ → List CodeWord → Type 0
   Ascend low [] = Unit {0}
   Ascend low (w ∷ ws) = (low ≤ w.at) × (is_code f w.at ≡ true) × (instruction_at f w.at ≡ Some w.ins) × Ascend (w.at + 1) ws
 
-  -- and there is one at each code address
+  -- a word stands at each code address from `low` on
   pub record Rest (low : ℕ) (ws : List CodeWord) : Type 0 where
     pub ascend : Ascend low ws
     pub complete : (a : ℕ) → low ≤ a → is_code f a ≡ true → Among a (addresses ws)
@@ -66,11 +66,11 @@ module _ (f : ElfFile) where
   }
 
   -- ---- what stands right behind a word
-  -- nothing, where there is no word
+  -- without a further word nothing stands there
   none_behind : (p : ℕ) → Rest (p + 1) [] → is_code f (p + 4) ≡ false
   none_behind p r = false_from_ne_true (is_code f (p + 4)) (λ e. r.complete (p + 4) (omega arith) e)
 
-  -- nor where the next word stands further on
+  -- if the next word stands further on, nothing stands there either
   gap_behind : (p : ℕ) (w : CodeWord) (ws : List CodeWord) → is_code f p ≡ true → Rest (p + 1) (w ∷ ws) → (w.at ≡ p + 4 → ⊥) → is_code f (p + 4) ≡ false
   gap_behind p w ws c r ne =
       false_from_ne_true (is_code f (p + 4))
@@ -113,7 +113,7 @@ module _ (f : ElfFile) where
       within zero lt l = let z : p + 4 + 4 * 0 ≡ p + 4 = omega arith in no_leader (p + 4) free (subst (IsLeader f o) z l)
       within (suc k) lt l = let z : p + 4 + 4 * suc k ≡ p + 4 + 4 + 4 * k = omega arith in g.inside k (omega (arith, lt)) (subst (IsLeader f o) z l)
 
-    -- one word, by what it is
+    -- how one word goes on, by its kind
     goes_by : (p : ℕ) (w : CodeWord) (ws : List CodeWord) → is_code f p ≡ true → Rest (p + 1) (w ∷ ws) → GoesOn w.at (size_behind leads w.at ws) (instructions (take (size_behind leads w.at ws) ws)) (end_of (end_behind leads w.at ws)) → (x y z : Bool) → (w.at == p + 4) ≡ x → leads w.at ≡ y → ends w ≡ z → GoesOn p (if (x && not y) && not z then size_behind leads w.at ws + 1 else 0) (instructions (take (if (x && not y) && not z then size_behind leads w.at ws + 1 else 0) (w ∷ ws))) (end_of (if x && not y then (if z then Some w.ins else end_behind leads w.at ws) else None))
     goes_by p w ws c r rec false y z ex ey ez = at_once p Falls (λ m. (omega arith, inr (gap_behind p w ws c r (eqb-false w.at (p + 4) ex))))
     goes_by p w ws c r rec true true z ex ey ez =

@@ -1,4 +1,4 @@
--- The blocks of words, one word more at a time.
+-- The blocks of words, one more word at a time.
 use Rattle.std.proofs.Common.{◌≡◌, ℕ, zero, suc, ◌+◌, ◌<◌, ◌≤◌, Bool, true, false, not, cond, ◌&&◌, Option, Some, None, List, [], ◌∷◌, ◌++◌, length, map, take, drop, get_or, refl, sym, ap, ◌∙◌, subst, arith}
 use Rattle.std.specs.Prelude.{◌==◌, AllPairs, filter, if◌then◌else◌}
 use Rattle.std.proofs.lemmas.Bool.{eqb-true, eq-eqb, false_from_ne_true}
@@ -37,7 +37,7 @@ abbrev addresses : List CodeWord → List ℕ
 addresses ws = map (λ c. c.at) ws
 
 module _ (leads : ℕ → Bool) (every : Bool) (reached : ℕ → Bool) (most : ℕ) where
-  -- what begins with the first word, by what is known there
+  -- the block that begins with the first word, by what is known there
   begun_long : (t s : Bool) (w : CodeWord) (ws : List CodeWord) (b : CodeBlock) → t ≡ true → IsLongBlock leads reached most (w ∷ ws) b → Begun t s leads reached most (w ∷ ws) (b ∷ [])
   begun_long true s w ws b e h = record { block = b; is = refl; holds = h }
   begun_long false s w ws b e h = absurd (cc)
@@ -57,12 +57,12 @@ module _ (leads : ℕ → Bool) (every : Bool) (reached : ℕ → Bool) (most : 
   adds_long [] leader b old new some e h n = absurd (omega (arith, some))
   adds_long (x ∷ xs) leader b old new some e h n = record { added = b ∷ []; new_is = n; begun = begun_long leader every x xs b e h }
 
-  -- one at no leader, where each code address has a block
+  -- a block at no leader, if each code address has a block
   pub adds_short : (words : List CodeWord) (leader : Bool) (v : CodeWord) (b : CodeBlock) (old new : List CodeBlock) → 1 ≤ length words → leader ≡ false → v ≡ get_or words 0 v → every ≡ true → IsShortBlock v b → new ≡ old ++ b ∷ [] → AddsBlock leader leads every reached most words old new
   adds_short [] leader v b old new some e q i h n = absurd (omega (arith, some))
   adds_short (x ∷ xs) leader v b old new some e q i h n = record { added = b ∷ []; new_is = n; begun = begun_short leader every x xs b e i (subst (λ y. IsShortBlock y b) q h) }
 
-  -- none
+  -- no block
   pub adds_none : (words : List CodeWord) (leader : Bool) (old : List CodeBlock) → 1 ≤ length words → leader ≡ false → every ≡ false → AddsBlock leader leads every reached most words old old
   adds_none [] leader old some e i = absurd (omega (arith, some))
   adds_none (x ∷ xs) leader old some e i = record { added = []; new_is = sym (append-nil old); begun = begun_none leader every x xs e i }
@@ -86,7 +86,7 @@ module _ (leads : ℕ → Bool) (every : Bool) (reached : ℕ → Bool) (most : 
       elim (leads a) as (λ z. behind a (cond z (a ∷ filter leads bs) (filter leads bs)) ≡ filter leads bs)
       [ true ↦ ap (λ z. if z then filter leads bs else a ∷ filter leads bs) (eq-eqb a a refl) | false ↦ none_behind a (filter leads bs) (first_above a bs h) ]
 
-  -- up to the next leader a test that knows it alone agrees
+  -- up to the next leader, a test that knows only that leader agrees with the test for all
   abbrev Agrees : (ℕ → Bool) → List CodeWord → Type 0
   Agrees next [] = Unit {0}
   Agrees next (w ∷ ws) = (next w.at ≡ leads w.at) × (leads w.at ≡ false → Agrees next ws)
@@ -135,7 +135,7 @@ module _ (leads : ℕ → Bool) (every : Bool) (reached : ℕ → Bool) (most : 
   begun_agrees false false next w ws bs a h = h
 
   -- ---- the list
-  -- with the blocks of the rest, those so far are all, and what is left are the leaders of the rest
+  -- the blocks so far, with those of the rest, are all; the leaders of the rest are left
   pub record Done (words : List CodeWord) (at : ℕ) (left : List ℕ) (done : List CodeBlock) : Type 0 where
     pub left_are : left ≡ filter leads (addresses (drop at words))
     pub made : (later : List CodeBlock) → Built leads every reached most (drop at words) later → Built leads every reached most words (done ++ later)
@@ -149,7 +149,7 @@ module _ (leads : ℕ → Bool) (every : Bool) (reached : ℕ → Bool) (most : 
   rest_pairs (w ∷ ws) zero h = h
   rest_pairs (w ∷ ws) (suc k) h = rest_pairs ws k h.1
 
-  -- one word more
+  -- one more word
   pub next_built :
       (words ws : List CodeWord) (at : ℕ) (left after : List ℕ) (d : CodeWord) (leader : Bool) (next : Option ℕ) (old new : List CodeBlock)
       → at < length words → ws ≡ drop at words → AllPairs (λ a b. a < b) (addresses words)

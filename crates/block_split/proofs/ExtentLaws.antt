@@ -68,7 +68,7 @@ module _ (f : ElfFile) (top : ℕ) (reach : (a : ℕ) → is_code f a ≡ true �
         (begun_within low w ws p.front (leads w.at) every r p.first)
         (built_within (w.at + 1) ws p.back (rest_tail f low w ws r) p.rest))
 
--- where no word stands past `top`, no block does
+-- if no word stands past `top`, no block does
 pub blocks_within :
     (f : ElfFile) (o : Options) (leads : ℕ → Bool) (exact : (a : ℕ) → IsTrue (leads a) ↔ IsLeader f o a) (every : Bool) (reached : ℕ → Bool) (most : ℕ) (code : List CodeWord) (bs : List CodeBlock)
     → AreCodeWords f code → Built leads every reached most code bs → (top : ℕ) → All (λ c. c.at + 4 ≤ top) code → All (IsWithin top) bs

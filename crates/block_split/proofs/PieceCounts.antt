@@ -5,7 +5,7 @@ use Rattle.std.proofs.lemmas.Grind.{div_ceil_times}
 use Rattle.std.proofs.lemmas.Bool.{cases_lt}
 use Rattle.qed_model.specs.Weave.Pieces.{piece_count}
 
--- by what it is that many times
+-- the count is k if k pieces hold n instructions, and k - 1 do not
 count_of : (n most k : ℕ) → 1 ≤ most → n ≤ k * most → k * most < n + most → (n + most - 1) / most ≡ k
 count_of n most k h low high = div-eq_of_lt-le {k = k} most {m = n + most - 1} (omega (arith, h, high)) (let e : (k + 1) * most ≡ k * most + 1 * most = add-mul k 1 most in omega (arith, h, low, e))
 
@@ -14,7 +14,7 @@ count_is n most h =
     let t = div_ceil_times n most (omega (arith, h)) in
     sym (count_of n most (n / most + min 1 (n % most)) h t.0 t.1)
 
--- some instruction makes up some piece
+-- some instructions make some pieces
 some_of : (n most k : ℕ) → 1 ≤ n → n ≤ k * most → 1 ≤ k
 some_of n most zero h low = omega (arith, h, low)
 some_of n most (suc k) h low = omega arith
@@ -22,7 +22,7 @@ some_of n most (suc k) h low = omega arith
 pub count_some : (n most : ℕ) → 1 ≤ n → 1 ≤ most → 1 ≤ n / most + min 1 (n % most)
 count_some n most h k = let t = div_ceil_times n most (omega (arith, k)) in some_of n most (n / most + min 1 (n % most)) h t.0
 
--- no piece of more than one has less than one instruction
+-- there are no more pieces than instructions
 few_of : (n most k : ℕ) → 1 ≤ most → k * most < n + most → k ≤ n
 few_of n zero k h high = absurd (omega (arith, h))
 few_of n (suc m) k h high =

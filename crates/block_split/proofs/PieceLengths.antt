@@ -44,7 +44,7 @@ total_lengths_of : (ps : List (List Ins)) → sum (map length ps) ≡ length (wh
 total_lengths_of [] = refl
 total_lengths_of (p ∷ ps) = sum_by-cons (λ n. n) (length p) (map length ps) ∙ ap (λ n. length p + n) (total_lengths_of ps) ∙ sym (length-append p (whole ps))
 
--- pieces of which these are the lengths
+-- pieces with these lengths
 by_pieces : (most : ℕ) (body : List Ins) (lengths : List ℕ) (ps : List (List Ins)) → 1 ≤ most → ArePieces most body ps → lengths ≡ map length ps → AreLengths most body lengths
 by_pieces most body lengths ps h p l =
     let e : divided lengths body ≡ ps = ap (λ ns. divided ns body) l ∙ ap (divided (map length ps)) (sym (pieces_whole most body ps h p)) ∙ divided_pieces ps in
@@ -69,7 +69,7 @@ made_lengths most body lengths h k m = by_runs most body lengths m.runs h k m.bo
 pub empty_lengths : (most : ℕ) (body : List Ins) (lengths : List ℕ) → 1 ≤ most → body ≡ [] → lengths ≡ 0 ∷ [] → AreLengths most body lengths
 empty_lengths most body lengths h e l = by_pieces most body lengths ([] ∷ []) h (record { runs = []; body_is = sym e; longest = tt; pieces_are = refl }) l
 
--- ---- one run more
+-- ---- one more run
 head_of : (xs : List Ins) (i : Ins) (is : List Ins) (n : ℕ) → i ∷ is ≡ drop n xs → take (suc n) xs ≡ take n xs ++ i ∷ []
 head_of [] i is zero e = ap (λ l. take 1 l) (sym e)
 head_of (x ∷ xs) i is zero e = ap (λ l. take 1 l) (sym e)
@@ -84,7 +84,7 @@ breaks xs n [] l e r = tt
 breaks xs n ([] ∷ runs) l e r = omega (arith, r.0)
 breaks xs n ((i ∷ is) ∷ runs) l e r = let next : suc n ≡ n + 1 = omega arith in ap is_run (sym (head_of xs i (is ++ whole runs) n e)) ∙ ap (λ m. is_run (take m xs)) next ∙ l.longest (short_of xs i (is ++ whole runs) n e)
 
--- some instruction is a run
+-- a single instruction is a run
 clean_none : (c : Class) (i : Ins) → is_clean_as c (λ r. false) i ≡ true
 clean_none class.Load i = refl
 clean_none class.Store i = refl
@@ -106,7 +106,7 @@ pub is_some : (body : List Ins) → false ≡ (length body == 0) → 1 ≤ lengt
 is_some [] e = absurd (false≢true e)
 is_some (x ∷ xs) e = omega arith
 
--- with no rest they make up the body
+-- with nothing left, the runs make up the body
 pub all_made : (most : ℕ) (body : List Ins) (at : ℕ) (done : List ℕ) → length body ≤ at → ((later : List (List Ins)) → whole later ≡ drop at body → AreRuns later → MakeUp most body (done ++ flat_map (λ run. run_lengths most (length run)) later)) → MakeUp most body done
 all_made most body at done h made = subst (λ ls. MakeUp most body ls) (append-nil done) (made [] (sym (drop_all at body h)) tt)
 
@@ -123,7 +123,7 @@ rest_some body at h =
     let d = length-drop at body in
     omega (arith, r, d, h)
 
--- with one run more those so far make up the body
+-- with one more run, those so far make up the body
 pub more_made : (most : ℕ) (body : List Ins) (at n : ℕ) (xs : List Ins) (done : List ℕ) → xs ≡ drop at body → 1 ≤ n → IsLongestRun xs n → ((later : List (List Ins)) → whole later ≡ drop at body → AreRuns later → MakeUp most body (done ++ flat_map (λ run. run_lengths most (length run)) later)) → (later : List (List Ins)) → whole later ≡ drop (at + n) body → AreRuns later → MakeUp most body ((done ++ run_lengths most n) ++ flat_map (λ run. run_lengths most (length run)) later)
 more_made most body at n xs done x k l before later e r =
     let rest : whole later ≡ drop n xs = e ∙ sym (drop-drop n at body) ∙ ap (λ ys. drop n ys) (sym x) in
@@ -134,6 +134,6 @@ more_made most body at n xs done x k l before later e r =
     let lists : done ++ (run_lengths most (length (take n xs)) ++ tail) ≡ (done ++ run_lengths most n) ++ tail = ap (λ m. done ++ (run_lengths most m ++ tail)) size ∙ sym (append_assoc done (run_lengths most n) tail) in
     subst (λ ls. MakeUp most body ls) lists made
 
--- the same of an equal list
+-- one more run, with an equal list of lengths
 pub added : (most : ℕ) (body rest : List Ins) (xs ys : List ℕ) → ((later : List (List Ins)) → whole later ≡ rest → AreRuns later → MakeUp most body (xs ++ flat_map (λ run. run_lengths most (length run)) later)) → ys ≡ xs → (later : List (List Ins)) → whole later ≡ rest → AreRuns later → MakeUp most body (ys ++ flat_map (λ run. run_lengths most (length run)) later)
 added most body rest xs ys made e later w r = subst (λ ls. MakeUp most body (ls ++ flat_map (λ run. run_lengths most (length run)) later)) (sym e) (made later w r)

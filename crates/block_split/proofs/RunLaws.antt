@@ -1,4 +1,4 @@
--- Runs, one instruction more at a time.
+-- Runs, one more instruction at a time.
 use Rattle.std.proofs.Common.{◌≡◌, ℕ, ◌+◌, ◌<◌, Bool, true, false, not, ◌&&◌, ◌||◌, List, [], ◌∷◌, ◌++◌, length, take, refl, sym, ap, ◌∙◌, arith, zero, suc, get_or, replicate}
 use Rattle.rv_isa.specs.declared.ins.Ins.{Ins}
 use Rattle.rv_isa.specs.declared.class.Class.{Class}
@@ -19,7 +19,7 @@ run_push : (w : ℕ → Bool) (xs : List Ins) (i : Ins) → is_run_after w (xs +
 run_push w [] i = and-true (is_clean w i)
 run_push w (x ∷ xs) i = ap (λ b. is_clean w x && b) (run_push (and_written x w) xs i) ∙ sym (and_assoc (is_clean w x) (is_run_after (and_written x w) xs) (is_clean (written_after (and_written x w) xs) i))
 
--- the same registers were written
+-- cleanness of an instruction depends only on the registers written
 clean_as_equal : (c : Class) (a b : ℕ → Bool) (i : Ins) → ((r : ℕ) → a r ≡ b r) → is_clean_as c a i ≡ is_clean_as c b i
 clean_as_equal class.Load a b i h = ap not (h i.rs1)
 clean_as_equal class.Store a b i h = ap (λ x. not x && not (a i.rs2)) (h i.rs1) ∙ ap (λ x. not (b i.rs1) && not x) (h i.rs2)
@@ -31,7 +31,7 @@ clean_equal a b i h = clean_as_equal (class_of i.kind) a b i h
 written_more : (xs : List Ins) (i : Ins) (w v : ℕ → Bool) → ((r : ℕ) → w r ≡ written_by xs r) → ((r : ℕ) → v r ≡ and_written i w r) → (r : ℕ) → v r ≡ written_by (xs ++ i ∷ []) r
 written_more xs i w v h k r = k r ∙ ap (λ b. b || is_at (writes i) r) (h r) ∙ sym (written_push (λ q. false) xs i r)
 
--- one instruction more is a run exactly where it is clean
+-- with one more instruction a run stays a run exactly if that instruction is clean
 run_more : (xs : List Ins) (i : Ins) (w : ℕ → Bool) (b : Bool) → ((r : ℕ) → w r ≡ written_by xs r) → is_run xs ≡ true → is_clean w i ≡ b → is_run (xs ++ i ∷ []) ≡ b
 run_more xs i w b h run e = run_push (λ q. false) xs i ∙ ap (λ x. x && is_clean (written_by xs) i) run ∙ sym (clean_equal w (written_by xs) i h) ∙ e
 
@@ -39,7 +39,7 @@ run_more xs i w b h run e = run_push (λ q. false) xs i ∙ ap (λ x. x && is_cl
 next_taken : (body : List Ins) (k : ℕ) (i : Ins) → k < length body → i ≡ get_or body k i → take (k + 1) body ≡ take k body ++ i ∷ []
 next_taken body k i lt is = take_more body k i lt ∙ ap (λ x. take k body ++ x ∷ []) (sym is)
 
--- it is not clean, so the run ends before it
+-- an instruction that is not clean ends the run before it
 pub stopped : (body : List Ins) (k n : ℕ) (i : Ins) (w : ℕ → Bool) → n ≡ k → k < length body → i ≡ get_or body k i → ((r : ℕ) → w r ≡ written_by (take k body) r) → is_run (take k body) ≡ true → is_clean w i ≡ false → IsLongestRun body n
 stopped body k n i w e lt is h run clean = record {
   within = omega (arith, e, lt);
@@ -53,7 +53,7 @@ noted body k i w v lt is h e r = written_more (take k body) i w v h e r ∙ ap (
 pub ran : (body : List Ins) (k : ℕ) (i : Ins) (w : ℕ → Bool) → k < length body → i ≡ get_or body k i → ((r : ℕ) → w r ≡ written_by (take k body) r) → is_run (take k body) ≡ true → is_clean w i ≡ true → is_run (take (k + 1) body) ≡ true
 ran body k i w lt is h run clean = ap is_run (next_taken body k i lt is) ∙ run_more (take k body) i w true h run clean
 
--- before the first instruction no register was written
+-- no register was written before the first instruction
 pub none_set : (n r : ℕ) → get_or (replicate n false) r false ≡ false
 none_set zero r = refl
 none_set (suc n) zero = refl

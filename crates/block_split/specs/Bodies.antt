@@ -5,7 +5,7 @@ use Rattle.rv_isa.specs.Kind.{class_of}
 use Rattle.tests.specs.declared.test.CodeWord.{CodeWord}
 use Rattle.tests.specs.Admission.Leaders.{is_end}
 
--- an end stands there
+-- an instruction that ends a block stands there
 abbrev pub ends : CodeWord → Bool
 ends w = is_end (class_of w.ins.kind)
 
@@ -13,17 +13,17 @@ ends w = is_end (class_of w.ins.kind)
 abbrev pub is_behind : (ℕ → Bool) → ℕ → CodeWord → Bool
 is_behind leads p w = (w.at == p + 4) && not (leads w.at)
 
--- how many of these words belong to the body behind its word at p
+-- how many of these words belong to a body behind its word at p
 abbrev pub size_behind : (ℕ → Bool) → ℕ → List CodeWord → ℕ
 size_behind leads p [] = 0
 size_behind leads p (w ∷ ws) = if is_behind leads p w && not (ends w) then size_behind leads w.at ws + 1 else 0
 
--- the end behind them, where there is one
+-- the ending instruction behind them, if there is one
 abbrev pub end_behind : (ℕ → Bool) → ℕ → List CodeWord → Option Ins
 end_behind leads p [] = None
 end_behind leads p (w ∷ ws) = if is_behind leads p w then (if ends w then Some w.ins else end_behind leads w.at ws) else None
 
--- the same of the body that begins with the first of the words
+-- how many of these words belong to the body that begins with the first of them
 abbrev pub body_size : (ℕ → Bool) → List CodeWord → ℕ
 body_size leads [] = 0
 body_size leads (w ∷ ws) = if ends w then 0 else size_behind leads w.at ws + 1

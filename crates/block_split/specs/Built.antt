@@ -11,7 +11,7 @@ abbrev pub first_at : List CodeWord → ℕ
 first_at [] = 0
 first_at (w ∷ ws) = w.at
 
--- the words ascend, and the leaders stand at some of them, in the same order
+-- the words ascend, and each leader, in ascending order, is the address of one of them
 pub record AreAlong (words : List CodeWord) (leaders : List ℕ) : Type 0 where
   pub ascend : AllPairs (λ a b. a < b) (map (λ c. c.at) words)
   pub along : leaders ≡ filter (lists leaders) (map (λ c. c.at) words)
@@ -21,7 +21,7 @@ abbrev pub first : List ℕ → Option ℕ
 first [] = None
 first (b ∷ bs) = Some b
 
--- those behind a, of leaders from there on
+-- the leaders behind a, of leaders from a on
 abbrev pub behind : ℕ → List ℕ → List ℕ
 behind a [] = []
 behind a (b ∷ bs) = if b == a then bs else b ∷ bs
@@ -48,14 +48,14 @@ pub record One (P : CodeBlock → Type 0) (bs : List CodeBlock) : Type 0 where
   pub is : bs ≡ block ∷ []
   pub holds : P block
 
--- the blocks that begin with the first word: one at a leader, one where each address has a block, else none
+-- the blocks that begin with the first word: one at a leader, one if each address has a block, else none
 abbrev pub Begun : Bool → Bool → (ℕ → Bool) → (ℕ → Bool) → ℕ → List CodeWord → List CodeBlock → Type 0
 Begun leader every leads reached most [] bs = bs ≡ []
 Begun true every leads reached most (w ∷ ws) bs = One (IsLongBlock leads reached most (w ∷ ws)) bs
 Begun false true leads reached most (w ∷ ws) bs = One (IsShortBlock w) bs
 Begun false false leads reached most (w ∷ ws) bs = bs ≡ []
 
--- these were added
+-- adding the blocks that begin with the first word
 pub record AddsBlock (leader : Bool) (leads : ℕ → Bool) (every : Bool) (reached : ℕ → Bool) (most : ℕ) (words : List CodeWord) (old new : List CodeBlock) : Type 0 where
   pub added : List CodeBlock
   pub new_is : new ≡ old ++ added

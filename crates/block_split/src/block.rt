@@ -18,9 +18,9 @@ pub struct CodeBlock {
     pub body: Instructions,
     /// The lengths of the pieces into which the body is cut. An empty body has one piece of length 0.
     pub lengths: Lengths,
-    /// The instruction that ends the block, behind the body. None where the block falls to the address there.
+    /// The instruction that ends the block, behind the body. None if the block falls through.
     pub end: Option<Ins>,
-    /// Whether a JALR of the test may lead to its first instruction, where only such addresses have entries; else false.
+    /// Whether a JALR of the test may lead to its first instruction, if only such addresses have entries; else false.
     pub reached: bool,
 }
 

@@ -14,14 +14,14 @@ pub struct Extent {
     pub end: Option<Ins>,
 }
 
-/// Whether an end stands there.
+/// Whether the word is an instruction that ends a block.
 pub fn ends(word: &CodeWord) -> bool
     ensures { result ≡ ends word.now }
 {
     is_end(word.ins.class())
 }
 
-/// Whether there is an address, and it is this one.
+/// Whether `found` is this address.
 pub fn is_at(found: Option<u64>, address: u64) -> bool
     ensures { result ≡ is_at found address }
 {
@@ -38,7 +38,7 @@ fn is_behind(previous: u64, word: &CodeWord, next: Option<u64>) -> bool
     u128::from(word.at) == u128::from(previous) + 4 && !is_at(next, word.at)
 }
 
-/// What belongs to a body behind its word at `start`, of the words that follow there, before the next leader.
+/// How many of the words that follow the one at `start` belong to its body, and the ending instruction, before `next`.
 fn extent_behind(start: u64, words: &[CodeWord], next: Option<u64>) -> Extent
     ensures size { result.size ≡ size_behind (is_at next) start words.now }
     ensures within { result.size ≤ length words.now }
@@ -60,7 +60,7 @@ fn extent_behind(start: u64, words: &[CodeWord], next: Option<u64>) -> Extent
     Extent { size, end: None }
 }
 
-/// The body of the block that begins with the first of these words, where `next` is the first leader behind it.
+/// The body of the block that begins with the first of these words; `next` is the first leader behind it.
 pub fn body_extent(words: &[CodeWord], next: Option<u64>) -> Extent
     requires { 1 ≤ length words.now }
     ensures size { result.size ≡ body_size (is_at next) words.now }

@@ -22,7 +22,7 @@ use rv_isa::Ins;
 use std::alloc::{AllocError, Global};
 use std::collections::BTreeSet;
 
-/// The instructions of words.
+/// The instructions of these words.
 fn instructions(alloc: Global, words: &[CodeWord]) -> Result<Vec<Ins>, AllocError>
     ensures { IfOk result (λ list. list.items ≡ map (λ c. c.ins) words.now) }
 {
@@ -32,7 +32,7 @@ fn instructions(alloc: Global, words: &[CodeWord]) -> Result<Vec<Ins>, AllocErro
 /// How blocks are made of words.
 #[derive(Clone, Copy)]
 pub(crate) struct Cutting<'a> {
-    /// Whether a word at no leader is a block.
+    /// Whether a word that is at no leader is a block.
     every: bool,
     /// The addresses that are reached.
     reached: &'a BTreeSet<u64>,
@@ -90,7 +90,7 @@ fn short_block(alloc: Global, word: &CodeWord) -> Result<CodeBlock, AllocError>
     })
 }
 
-/// Adds the block that begins with the first of these words, where one does: `leads` says whether that is a leader.
+/// Adds the block that begins with the first of these words, if one does; `leads` says whether it is a leader.
 #[tactic(auto, using(crate::proofs::BuiltLaws::adds_long, crate::proofs::BuiltLaws::adds_short, crate::proofs::BuiltLaws::adds_none))]
 fn push_block(
     blocks: &mut Vec<CodeBlock>,
@@ -122,7 +122,7 @@ fn first(leaders: &[u64]) -> Option<u64>
     }
 }
 
-/// The leaders behind an address, of those from there on.
+/// The leaders behind an address, of leaders from it on.
 fn behind(address: u64, leaders: &[u64]) -> &[u64]
     ensures { result.now ≡ behind address leaders.now }
 {
@@ -155,7 +155,7 @@ pub(crate) fn list(
     Ok(blocks)
 }
 
-/// Whether every code address has a block: where the code has a JALR and all have entries.
+/// Whether every code address has a block: when the code has a JALR and all addresses have entries.
 fn has_every(test: &Test, options: &Options) -> bool
     ensures { (f : ElfFile) → AreCodeWords f test.now.code → IsTrue result ↔ ((options.now.entries ≡ entries.All) × HasIndirect f) }
 {
@@ -165,9 +165,9 @@ fn has_every(test: &Test, options: &Options) -> bool
     }
 }
 
-/// The blocks of the file that `test` is, in ascending order: that of each leader, and where the code has a JALR and all code
-/// addresses have entries that of each other code address. The lengths of a block's pieces add up to that of its body, and
-/// where all words of the code end at `top` or below, so do the bodies.
+/// The blocks of the file that `test` is, in ascending order: one for each leader. If the code has
+/// a JALR and all code addresses have entries, each other code address has one too. The lengths of
+/// a block's pieces add up to its body's. If the code ends at `top` or below, so do the bodies.
 pub fn blocks(
     alloc: Global,
     test: &Test,

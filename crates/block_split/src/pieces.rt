@@ -7,7 +7,7 @@ use crate::runs::run_length;
 use rv_isa::Ins;
 use std::alloc::{AllocError, Global};
 
-/// Adds a length so many times.
+/// Adds a length `times` times.
 fn push_times(lengths: &mut Vec<u64>, times: u64, length: u64) -> Result<(), AllocError>
     ensures { OnOk result (lengths.new.items ≡ lengths.old.items ++ replicate times length) }
 {
@@ -17,7 +17,7 @@ fn push_times(lengths: &mut Vec<u64>, times: u64, length: u64) -> Result<(), All
     Ok(())
 }
 
-/// How many pieces of at most `max` instructions a run of `size` instructions has: the fewest, and from 1 to `size`.
+/// How many pieces of at most `max` instructions a run of `size` instructions has: the fewest, 1 to `size`.
 #[tactic(auto, using(crate::proofs::PieceCounts::count_is, crate::proofs::PieceCounts::count_some, crate::proofs::PieceCounts::count_few))]
 fn piece_count(size: u64, max: u64) -> u64
     requires some { 1 ≤ size }
@@ -42,8 +42,8 @@ fn push_lengths(lengths: &mut Vec<u64>, size: u64, max: u64) -> Result<(), Alloc
     Ok(())
 }
 
-/// The lengths of the pieces of a body, in instructions: one that is 0 where the body is empty. `min` changes no length: it is
-/// the floor that `max` leaves room for, so that a piece is shorter than it only where its run is.
+/// The lengths of the pieces of a body, in instructions; an empty body has one of 0. `min` changes no length.
+/// It is the floor that `max` leaves room for: a piece is shorter than `min` only if its run is.
 #[tactic(auto, using(std::proofs::lemmas::List::take_rest, crate::proofs::PieceLengths::made_lengths, crate::proofs::PieceLengths::empty_lengths, crate::proofs::PieceLengths::more_made, crate::proofs::PieceLengths::all_made, crate::proofs::PieceLengths::is_nil, crate::proofs::PieceLengths::is_some, crate::proofs::PieceLengths::within_body, crate::proofs::PieceLengths::rest_some, crate::proofs::PieceLengths::some_run, crate::proofs::PieceLengths::added))]
 pub fn split(alloc: Global, body: &[Ins], min: u64, max: u64) -> Result<Vec<u64>, AllocError>
     requires least { 1 ≤ min }

@@ -1,11 +1,11 @@
-//! Runs: instructions of which none uses as base or stores what an earlier one of them has written.
+//! Runs: no instruction of a run uses as base, or stores, a register that an earlier one has written.
 ghost use Rattle.std.specs.Prelude.{◌≡◌, ℕ, slice_index_or, false, ◌≤◌, length};
 ghost use Rattle.qed_model.specs.Weave.Pieces.{is_clean, and_written};
 ghost use Rattle.block_split.specs.Lengths.{IsLongestRun};
 
 use rv_isa::{Class, Ins};
 
-/// Whether the base of a load or store and a stored register are not among the registers that were written.
+/// Whether neither the base of a load or store nor a stored register has been written.
 fn is_clean(written: &[bool; 32], instruction: &Ins) -> bool
     ensures { result ≡ is_clean (λ r. slice_index_or written.now r false) instruction.now }
 {

@@ -2,7 +2,7 @@
 use Rattle.std.specs.Prelude.{ℕ, ◌^◌, ◌<◌, nat_lt, if◌then◌else◌, Option, Some, None, IfSome}
 use Rattle.qed_model.specs.declared.bounds.Bounds.{Bounds}
 
--- a number, where it is below 2^64
+-- a number, if it is below 2^64
 abbrev pub fitting : ℕ → Option ℕ
 fitting n = if nat_lt n (2 ^ 64) then Some n else None
 

@@ -10,7 +10,7 @@ use crate::steps::{end, fitting, round, told};
 use qed_model::steps::{LEAN_LEAVE_STEPS, call_steps, entry_steps, lean_instruction_steps};
 use qed_model::{Bounds, Shape};
 
-/// The check.
+/// The steps of the check.
 fn check(shape: &Shape) -> Option<u64>
     requires { 1 ≤ shape.now.round }
     ensures { result ≡ fitting (check_bound shape.now.words shape.now.ranges shape.now.round) }
@@ -19,7 +19,7 @@ fn check(shape: &Shape) -> Option<u64>
     fitting(36 + u128::from(round))
 }
 
-/// An entry that goes to the check.
+/// The steps of an entry that calls the check.
 fn call(shape: &Shape) -> u128
     ensures value { result ≡ entry_steps_of shape.now.land + call_steps_of shape.now.land }
     ensures bound { result ≤ 9 }
@@ -27,7 +27,7 @@ fn call(shape: &Shape) -> u128
     u128::from(entry_steps(shape.land) + call_steps(shape.land))
 }
 
-/// The longest piece, with a check before it and the leave.
+/// The steps of the longest piece, with a check before it and the leave.
 fn piece(shape: &Shape, check: u64) -> Option<u64>
     ensures { result ≡ fitting (LEAN_LEAVE_STEPS + call_steps_of shape.now.land + 2 * entry_steps_of shape.now.land + check + cost_of shape.now.diverse * shape.now.inst_max) }
 {
@@ -44,7 +44,7 @@ fn period(shape: &Shape, check: u64, every: u64) -> Option<u64>
     fitting(u128::from(check) + u128::from(every) + call(shape))
 }
 
-/// The checks in which all words are visited, and one more.
+/// In how many checks all words are visited, and one more.
 fn checks(words: u64, round: u64) -> u128
     requires some { 1 ≤ words }
     requires visits { 1 ≤ round }
@@ -54,8 +54,8 @@ fn checks(words: u64, round: u64) -> u128
     (u128::from(words) + u128::from(round) - 1) / u128::from(round) + 1
 }
 
-/// The bounds of an output in the lean form with `every` steps from check to check, in steps. None exactly where one of them is
-/// 2^64 or above.
+/// The bounds of an output in the lean form, with a check every `every` steps, in steps. None
+/// exactly if one of them is 2^64 or above.
 pub fn lean_bounds(shape: &Shape, every: u64) -> Option<Bounds>
     requires { 1 ≤ shape.now.round }
     ensures { SomeIff result (AreSmall (lean_bounds_of shape.now every)) (lean_bounds_of shape.now every) }

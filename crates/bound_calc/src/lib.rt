@@ -1,4 +1,4 @@
-//! The bounds, in steps, that are promised of a test that was transformed.
+//! The promised bounds, in steps, of a transformed test.
 #![tactic(auto)]
 
 mod lean;

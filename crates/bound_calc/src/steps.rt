@@ -1,5 +1,4 @@
-//! The bounds. Sums are made in 128 bits, and each part is tested as it is added: no part is greater than a bound that has
-//! it.
+//! The bounds. Sums use 128 bits. Each part is tested when it is added: no part exceeds its bound.
 ghost use Rattle.std.specs.Prelude.{◌≡◌, ◌+◌, ◌-◌, ◌*◌, ◌/◌, ◌≤◌, ◌<◌, ◌^◌};
 ghost use Rattle.std.specs.Option.{SomeIff};
 ghost use Rattle.qed_model.specs.Weave.Bounds.{visit_bound, end_bound, start_steps, longest_piece, bounds_of};
@@ -8,14 +7,14 @@ ghost use Rattle.bound_calc.specs.Fitting.{fitting, AreSmall};
 use qed_model::steps::instruction_steps;
 use qed_model::{Bounds, Shape};
 
-/// A number, where it is below 2^64.
+/// A number, if it is below 2^64.
 pub(crate) fn fitting(number: u128) -> Option<u64>
     ensures { result ≡ fitting number }
 {
     u64::try_from(number).ok()
 }
 
-/// The steps of a visited data word, of so many in so many data ranges.
+/// The steps of the visit of one data word, with `words` data words in `ranges` data ranges.
 fn visit(words: u64, ranges: u64) -> Option<u64>
     ensures { result ≡ fitting (visit_bound words ranges) }
 {
@@ -35,7 +34,7 @@ pub(crate) fn round(shape: &Shape) -> Option<u64>
     fitting(u128::from(visit) * u128::from(shape.round))
 }
 
-/// The longest piece, with its entry and its leave.
+/// The steps of the longest piece, with its entry and its leave.
 fn piece(shape: &Shape) -> Option<u64>
     requires { 1 ≤ shape.now.round }
     ensures { result ≡ fitting (longest_piece shape.now) }
@@ -45,7 +44,7 @@ fn piece(shape: &Shape) -> Option<u64>
     fitting(30 + cost * u128::from(shape.inst_max) + u128::from(round))
 }
 
-/// What runs before the end.
+/// The steps before the end.
 pub(crate) fn end(shape: &Shape) -> u128
     ensures value { result ≡ end_bound shape.now.sweep shape.now.ranges shape.now.words }
     ensures low { result < 2 ^ 68 }
@@ -57,7 +56,7 @@ pub(crate) fn end(shape: &Shape) -> u128
     }
 }
 
-/// What runs before the first entry, and what runs before the end.
+/// The steps before the first entry, and those before the end.
 fn start(shape: &Shape) -> Option<u64>
     ensures { result ≡ fitting (start_steps shape.now) }
 {
@@ -65,7 +64,7 @@ fn start(shape: &Shape) -> Option<u64>
     fitting(first + end(shape))
 }
 
-/// The pieces of a whole round of visits, and two more.
+/// In how many pieces all data words are visited, and two more.
 fn pieces(words: u64, round: u64) -> u128
     requires { 1 ≤ round }
     ensures value { result ≡ (words + round - 1) / round + 2 }
@@ -74,7 +73,7 @@ fn pieces(words: u64, round: u64) -> u128
     (u128::from(words) + u128::from(round) - 1) / u128::from(round) + 2
 }
 
-/// These bounds.
+/// Bounds with these numbers.
 pub(crate) fn told(most: u64, changed: u64, visited: Option<u64>, first: u64) -> Bounds
     ensures { result ≡ record { piece = most; register = changed; word = visited; start = first } }
 {
@@ -86,7 +85,7 @@ pub(crate) fn told(most: u64, changed: u64, visited: Option<u64>, first: u64) ->
     }
 }
 
-/// The bounds of an output, in steps. None exactly where one of them is 2^64 or above.
+/// The bounds of an output, in steps. None exactly if one of them is 2^64 or above.
 pub fn bounds(shape: &Shape) -> Option<Bounds>
     requires { 1 ≤ shape.now.round }
     ensures { SomeIff result (AreSmall (bounds_of shape.now)) (bounds_of shape.now) }

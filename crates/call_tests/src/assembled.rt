@@ -1,4 +1,4 @@
-//! A text that is assembled alone, without the numbers of its words, which no program does.
+//! A text that is assembled alone, without the numbers of its words; no program does this.
 
 use rv_asm::assemble;
 use std::test::Fail;

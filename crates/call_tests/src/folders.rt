@@ -1,4 +1,4 @@
-//! A file is replaced in a folder of which each call fails in turn.
+//! Replaces a file in a folder; each call fails in turn.
 ghost use Rattle.std.specs.Prelude.{Some};
 ghost use Rattle.std.specs.Option.{option_map};
 
@@ -18,7 +18,7 @@ struct InMemory {
     is_synced: bool,
     has_rights: bool,
     stuck: u64,
-    /// How many calls are made before the one that fails, and of which kind that fault is.
+    /// How many calls are made before the one that fails, and the kind of its fault.
     before: u64,
     kind: ErrorKind,
     /// Nothing can be removed.
@@ -47,7 +47,7 @@ impl InMemory {
     }
 }
 
-/// One call more: whether it may be made.
+/// Makes one more call, or fails.
 fn passes(before: &mut u64, kind: ErrorKind) -> io::Result<()> {
     if *before == 0 {
         *before = u64::MAX;

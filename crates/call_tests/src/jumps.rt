@@ -7,11 +7,11 @@ use rv_isa::profile::TEMPORARY;
 use rv_isa::register;
 use std::test::Fail;
 
-/// `auipc x30,-12288; addi x30,x30,-120` at 0x13078, which set x30 to 0x10000; `j .-8` to the mark, `j .+4` to the stub, and
-/// the stub.
+/// `auipc x30,-12288; addi x30,x30,-120` at 0x13078, which set x30 to 0x10000; `j .-8` to the mark,
+/// `j .+4` to the stub, and the stub.
 const NEAR: [u32; 5] = [0xffff_df17, 0xf88f_0f13, 0xff9f_f06f, 0x0040_006f, 0];
 
-/// The same with `auipc x30,0; jalr x0,-8(x30)` and `auipc x30,0; jalr x0,8(x30)`.
+/// As `NEAR`, with `auipc x30,0; jalr x0,-8(x30)` and `auipc x30,0; jalr x0,8(x30)`.
 const FAR: [u32; 7] = [
     0xffff_df17,
     0xf88f_0f13,

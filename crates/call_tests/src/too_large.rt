@@ -9,7 +9,7 @@ use rv_isa::register;
 use std::alloc::{AllocError, Global};
 use std::test::Fail;
 
-/// So many constants, of 8 bytes each.
+/// `count` constants, of 8 bytes each.
 fn constants(alloc: Global, count: u32) -> Result<Emit, AllocError>
     ensures { IfOk result (λ items. (far : Bool) → sum_of_sizes far items ≡ 8 * count) }
 {

@@ -1,4 +1,4 @@
-//! A hart and the memory are struck, which no program does.
+//! A hart and the memory are struck; no program does this.
 ghost use Rattle.std.specs.Prelude.{◌≡◌, ◌<◌, ◌^◌, IfOk};
 ghost use Rattle.machine.specs.Loading.{load_segments};
 ghost use Rattle.machine.specs.Apart.{AllFitMemory, AreApart};

@@ -1,10 +1,10 @@
-//! Pieces that are woven whole, which no program does.
+//! Pieces that are woven whole; no program does this.
 
 use elf_types::Listed;
 use std::test::Fail;
 use weave::{piece, woven_piece};
 
-/// A piece of no instruction, where no word is visited, is the comparison of 13 registers.
+/// A piece of no instruction that visits no word is the comparison of 13 registers.
 #[test]
 fn empty_pieces(rt: HostRuntime) -> Result<(), Fail> {
     let alloc = rt.alloc();

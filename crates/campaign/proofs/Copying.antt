@@ -14,7 +14,7 @@ use Rattle.campaign.proofs.Leaping.{on_made, stopped_not}
 use Rattle.campaign.proofs.Stopping.{progress_state}
 
 -- ---- how far a run is struck
--- where no more steps are made, it has stopped, or has made all
+-- the reach of a run: it stopped before it made all steps asked for, or it made 1,000,000
 pub reach_made :
     (s : State) (made n more reach : ℕ) (p q : Progress) → IsOn s made p.state → q ≡ progress p n → AreMade p n more → made + more ≡ reach → reach ≤ 1000000 → (more < n) ⊎ (reach ≡ 1000000)
     → IsReach s reach
@@ -25,7 +25,7 @@ reach_made s made n more reach p q on ran are sum within (inl less) =
     let there : (progress p n).state ≡ run s reach = sym (ap (λ r. r.state) ran) ∙ next.there in
     record { within = within; before = next.before; ends = inl (λ g. stopped_not (progress p n).state.outcome (are.stopped less) (ap (λ t. t.outcome) there ∙ g)) }
 
--- the copies behind the first are as many
+-- how many copies are behind the first
 pub are_copies :
     (first : Progress) (later : List Progress) (number made reach : ℕ) → later ≡ each number (λ i. progress first (4096 * (i + 1))) → reach ≡ 4096 * number + made → made < 4096 → IsReach first.state reach
     → AreCopies first reach later
@@ -34,13 +34,13 @@ are_copies first later number made reach e sum small is =
     let count : length later ≡ number = ap length e ∙ length-each number f in
     record { is_reach = is; count = omega (arith, count, sum, small); there = e ∙ ap (λ n. each n f) (sym count) }
 
--- where it goes on at the start, some steps
+-- a run that goes on at the start makes some steps
 pub reach_positive : (s : State) (n : ℕ) → s.outcome ≡ Going → IsReach s n → 1 ≤ n
 unfolding run
 reach_positive s zero g x = absurd (elim x.ends [ inl h ↦ h g | inr e ↦ omega arith ])
 reach_positive s (suc n) g x = omega arith
 
--- what a look-up of a number from 1 on gives
+-- the copy that a look-up of a number from 1 on finds
 pub copy_got :
     (start : Progress) (s : State) (reach : ℕ) (later : List Progress) (n : ℕ) (r : Option (Bor Progress)) → AreCopies start reach later → start.state ≡ s → 1 ≤ n → IsItemAt later (n - 1) r
     → IfSome r (λ m. m.now.state ≡ run s (4096 * n))

@@ -1,4 +1,4 @@
--- Strikes that are drawn one after the other.
+-- Strikes that are drawn one after another.
 use Rattle.std.proofs.Common.{◌≡◌, ◌⊎◌, inl, inr, ℕ, zero, suc, ◌+◌, ◌*◌, ◌<◌, ◌≤◌, true, false, cond, List, [], ◌∷◌, map, refl, sym, ap, ◌∙◌, subst, arith, nat_le, nat_lt}
 use Rattle.std.specs.Prelude.{fold, if◌then◌else◌, All, IsSome, Option, None, Some}
 use Rattle.std.proofs.lemmas.Bool.{cases_lt, or_parts}
@@ -22,7 +22,7 @@ use Rattle.campaign.specs.Draw.{numbered_place, has_place, drawn_place, drawn_ch
 use Rattle.campaign.specs.Struck.{IsStrike}
 
 -- ---- words among the places
--- with a change more there is no word where there was none and the change is of none
+-- changes with no place that is a word, and one more change of none
 with_change_none : (ds : List Change) (c : Change) → has_word ds ≡ false → is_word c.place ≡ false → has_word (with_change ds c) ≡ false
 with_change_none [] c h e = rw e refl
 with_change_none (d ∷ ds) c h e =
@@ -30,7 +30,7 @@ with_change_none (d ∷ ds) c h e =
     elim (nat_le d.step c.step) as (λ t. has_word (if t then d ∷ with_change ds c else c ∷ d ∷ ds) ≡ false)
     [ true ↦ rw (p.0, with_change_none ds c p.1 e) refl | false ↦ rw (e, h) refl ]
 
--- where there is no data word, no drawn place is a word
+-- without data words no drawn place is a word
 no_place : (spans : List (ℕ × ℕ)) (q : ℕ) → q < ORIGINALS → is_word (numbered_place spans q) ≡ false
 unfolding numbered_place
 no_place spans q h = let t : nat_lt q ORIGINALS ≡ true = grind (arith, nat_tests) in rw t refl
@@ -74,12 +74,12 @@ drawn_fits plan reach aim n g has place = record {
   by_count (inl x) = inr (has.bound (omega (arith, x)))
   by_count (inr x) = inl (fold_none (map range_of plan.span) reach aim n g place (omega (arith, x, has.count)))
 
--- where there is a strike, there is a place
+-- if there is a strike, there is a place
 pub place_of_some : (d : Draws) (words i : ℕ) → i < strike_count d words → has_place d.aim.only words ≡ true
 place_of_some d words i h =
     elim (has_place d.aim.only words) as (λ t. i < (if t then d.count else 0) → t ≡ true) [ true ↦ λ _. refl | false ↦ λ l. absurd (omega (arith, l)) ] h
 
--- all of them
+-- all drawn strikes are strikes
 pub drawn_all_fit : (plan : Plan) (reach : ℕ) (d : Draws) → HasWords plan → All (IsStrike plan.bounds) (drawn_strikes (map range_of plan.span) reach d)
 unfolding drawn_strikes
 drawn_all_fit plan reach d has =
@@ -87,8 +87,8 @@ drawn_all_fit plan reach d has =
     (λ i. drawn_strike (map range_of plan.span) reach d.aim d.changes (after (3 * d.changes * i) (seeded d.seed)))
     (λ i less. drawn_fits plan reach d.aim d.changes (after (3 * d.changes * i) (seeded d.seed)) has (place_of_some d (word_count (map range_of plan.span)) i less))
 
--- ---- one more
--- a change
+-- ---- one more change, and one more strike
+-- one more change is drawn
 pub one_change :
     (spans : List (ℕ × ℕ)) (reach : ℕ) (aim : Aim) (k : ℕ) (g : Lcg) (made next : List Change) (c : Change) → made ≡ in_order (each k (λ j. drawn_change spans reach aim (after (3 * j) g)))
     → c ≡ drawn_change spans reach aim (after (3 * k) g) → next ≡ with_change made c → next ≡ in_order (each (k + 1) (λ j. drawn_change spans reach aim (after (3 * j) g)))
@@ -99,11 +99,11 @@ one_change spans reach aim k g made next c e is added =
     added ∙ ap (λ ds. with_change ds c) e ∙ ap (with_change (in_order (each k f))) is ∙ sym (fold-append with_change [] (each k f) (f k ∷ [])) ∙ sym (ap (λ m. in_order (each m f)) n)
 
 -- ---- the words of strikes
--- before any
+-- no word is drawn before the first strike
 pub none_drawn : (m : ℕ) (g : Lcg) → g ≡ after (3 * m * 0) g
 none_drawn m g = let e : 3 * m * 0 ≡ 0 = mul-zero (3 * m) in sym (ap (λ n. after n g) e)
 
--- of one strike more
+-- the words of one more strike
 pub more_words : (m i : ℕ) (g : Lcg) → after (3 * m) (after (3 * m * i) g) ≡ after (3 * m * (i + 1)) g
 more_words m i g =
     let n : i + 1 ≡ suc i = omega arith in

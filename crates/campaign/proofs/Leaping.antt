@@ -1,4 +1,4 @@
--- Runs that are made in parts, or taken up at a copy of another run.
+-- Runs that are made in parts, or continued at a copy of another run.
 use Rattle.std.proofs.Common.{◌≡◌, ⊎_elim, ℕ, ◌+◌, ◌-◌, ◌<◌, ◌≤◌, true, false, None, refl, sym, ap, ◌∙◌, arith}
 use Rattle.std.specs.Prelude.{◌≢◌}
 use Rattle.std.proofs.lemmas.Bool.{cases_lt}
@@ -22,7 +22,7 @@ stopped_not o h g = absurd (cc)
 pub on_none : (s : State) → IsOn s 0 s
 on_none s = record { there = sym (run-none s); before = λ k l. absurd (omega (arith, l)) }
 
--- what comes behind the steps so far
+-- the steps behind those so far
 pub on_later : (s t : State) (n k : ℕ) → IsOn s n t → run s (n + k) ≡ run t k
 on_later s t n k on = run-more s n k ∙ ap (λ u. run u k) (sym on.there)
 
@@ -32,7 +32,7 @@ on_before s t n steps k on going l =
     (λ h. let e : n + (k - n) ≡ k = omega (arith, h) in ap (λ i. (run s i).outcome) (sym e) ∙ ap (λ u. u.outcome) (on_later s t n (k - n) on) ∙ going (k - n) (omega (arith, l, h)))
     (cases_lt k n)
 
--- a run that has ended traps nowhere
+-- a run that has ended does not trap
 pub ended_untrapped : (s t : State) (n k : ℕ) → IsOn s n t → t.outcome ≡ Ended → trap_pc_of (run s k).outcome ≡ None
 ended_untrapped s t n k on ended =
     ⊎_elim
@@ -45,20 +45,20 @@ ended_untrapped s t n k on ended =
       ended_goes : Ended ≡ Going → ⊥
       ended_goes x = cc
 
--- a machine that still goes on
+-- a machine makes more steps, and still goes on
 pub on_more : (s : State) (made n next : ℕ) (p q : Progress) → IsOn s made p.state → q ≡ progress p n → made + n ≡ next → q.state.outcome ≡ Going → IsOn s next q.state
 on_more s made n next p q on ran sum going =
     let there = ran_on s p q made n next on.there ran sum in
     record { there = there; before = λ k l. going_before s k next (omega (arith, l)) (ap (λ t. t.outcome) (sym there) ∙ going) }
 
--- one that makes so many more, before each of which it goes on
+-- a machine makes more steps, and went on before each of them
 pub on_made : (s : State) (made n more next : ℕ) (p q : Progress) → IsOn s made p.state → q ≡ progress p n → AreMade p n more → made + more ≡ next → IsOn s next q.state
 on_made s made n more next p q on ran are sum = record {
   there = ran_on s p q made more next on.there (ran ∙ sym are.all) sum;
   before = λ k l. on_before s p.state made more k on (λ i h. ap (λ t. t.outcome) (sym (progress_state p i)) ∙ goes (progress p i).state.outcome (are.going i h)) (omega (arith, l, sum));
 }
 
--- and stops
+-- a machine makes more steps, and stops
 pub on_stops :
     (s : State) (made n more most : ℕ) (p q : Progress) → IsOn s made p.state → q ≡ progress p n → AreMade p n more → made + n ≤ most → q.state.outcome ≢ Going
     → StopsWithin s most q.state (made + more)
@@ -72,7 +72,7 @@ on_stops s made n more most p q on ran are fits stopped =
     }
 
 -- ---- a copy of another run
--- where both stand in one state, they go the same way
+-- two runs in equal states go the same way
 beside : (s t start : State) (made a j : ℕ) → t ≡ run s made → t ≡ run start a → run s (made + j) ≡ run start (a + j)
 beside s t start made a j e f = run-more s made j ∙ ap (λ u. run u j) (sym e ∙ f) ∙ sym (run-more start a j)
 
@@ -83,7 +83,7 @@ leap_goes s t start made a most reach is on here fits short =
     let e : made + (most - made) ≡ most = omega (arith, fits) in
     ap (λ k. (run s k).outcome) (sym e) ∙ ap (λ u. u.outcome) (beside s t start made a (most - made) on.there here) ∙ is.before (a + (most - made)) short
 
--- up to a later copy
+-- the run leaps to a later copy
 pub leap_on :
     (s t u start : State) (made a b reach : ℕ) → IsReach start reach → IsOn s made t → t ≡ run start a → a ≤ b → b ≤ reach → u ≡ run start b → IsOn s (made + (b - a)) u
 leap_on s t u start made a b reach is on here ab br there =

@@ -1,4 +1,4 @@
--- A run without changes, looked at where each change would be made.
+-- A run without changes, looked at before each change.
 use Rattle.std.proofs.Common.{◌≡◌, ℕ, ◌+◌, ◌-◌, ◌<◌, ◌≤◌, Bool, false, ◌||◌, List, [], ◌∷◌, length, get_or, drop, refl, sym, ap, ◌∙◌, subst, arith}
 use Rattle.std.proofs.Math.Bool.{or_assoc}
 use Rattle.machine.specs.Step.{State, run}
@@ -6,7 +6,7 @@ use Rattle.machine.proofs.Lemmas.{run-more}
 use Rattle.fault_inject.proofs.Changing.{drop_at}
 use Rattle.campaign.specs.Verdict.{has_closed, Change, Ordered, last_step, is_closed_place}
 
--- the step of the last of some changes; another number where there is none
+-- the step of the last of some changes; t if there is none
 abbrev pub last_or : ℕ → List Change → ℕ
 last_or t [] = t
 last_or t (c ∷ cs) = last_or c.step cs
@@ -32,7 +32,7 @@ pub ordered_from_zero : (cs : List Change) → Ordered cs → OrderedFrom 0 cs
 ordered_from_zero [] o = tt
 ordered_from_zero (c ∷ cs) o = (omega arith, ordered_behind c cs o)
 
--- and the other way
+-- changes in order from a number on are in order
 ordered_again : (c : Change) (cs : List Change) → OrderedFrom c.step cs → Ordered (c ∷ cs)
 ordered_again c [] o = tt
 ordered_again c (d ∷ cs) o = (o.0, ordered_again d cs o.1)
@@ -41,7 +41,7 @@ pub ordered_to : (t : ℕ) (cs : List Change) → OrderedFrom t cs → Ordered c
 ordered_to t [] o = tt
 ordered_to t (c ∷ cs) o = ordered_again c cs o.1
 
--- on the way: so many steps were made, and this change is next
+-- on the way: this many steps were made, and this change is next
 pub record Looked (s : State) (cs : List Change) (k steps : ℕ) (is_closed : Bool) (state : State) : Type 0 where
   pub there : state ≡ run s steps
   pub closed : (is_closed || has_closed s (drop k cs)) ≡ has_closed s cs
@@ -52,7 +52,7 @@ pub looked_first : (s : State) (cs : List Change) → Ordered cs → Looked s cs
 unfolding run
 looked_first s cs o = record { there = refl; closed = refl; last = last_or_zero cs; from = ordered_from_zero cs o }
 
--- the next change does not come before
+-- the next change does not come before the steps made
 pub next_later : (s : State) (cs : List Change) (k steps : ℕ) (is_closed : Bool) (state : State) (c : Change) → Looked s cs k steps is_closed state → k < length cs → c ≡ get_or cs k c → steps ≤ c.step
 next_later s cs k steps is_closed state c x lt e = (subst (OrderedFrom steps) (drop_at cs k c lt e) x.from).0
 

@@ -1,4 +1,4 @@
--- Strikes that are made one after the other.
+-- Strikes that are made one after another.
 use Rattle.std.proofs.Common.{◌≡◌, ◌⊎◌, inl, inr, ℕ, suc, ◌+◌, ◌<◌, ◌≤◌, true, false, List, [], ◌∷◌, ◌++◌, length, get_or, drop, drop-cons, add-one, refl, sym, ap, ◌∙◌, subst, append_assoc, arith}
 use Rattle.std.specs.Prelude.{Option, Some, None, is_some, All, slice_get}
 use Rattle.std.proofs.Math.ListN.{set, replicate}
@@ -13,7 +13,7 @@ use Rattle.campaign.specs.Kept.{Pair}
 use Rattle.qed_model.specs.Promise.Changed.{Ordered}
 use Rattle.campaign.specs.Struck.{AreKnown, AreStruck, IsKnown, IsStrike, IsStruckNext}
 
--- all are struck, where those of the rest are struck behind those so far
+-- all are struck once those of the rest are struck behind those so far
 abbrev pub AreSoFar : Pair → List (List Change) → ℕ → List Struck → Type 0
 AreSoFar p strikes k struck = (later : List Struck) (trapped : Option ℕ) → AreStruck p (drop k strikes) later trapped → AreStruck p strikes (struck ++ later) trapped
 
@@ -42,7 +42,7 @@ ends_whole p strikes k struck all so_far =
     let here : AreStruck p (drop k strikes) [] None = subst (λ rest. AreStruck p rest [] None) (sym (drop_all k strikes all)) (refl, refl) in
     subst (λ ss. AreStruck p strikes ss None) (append-nil struck) (so_far [] None here)
 
--- the steps of the changes of what was struck do not fall
+-- the steps of the changes of each strike do not fall
 pub all_ordered : (p : Pair) (strikes : List (List Change)) (struck : List Struck) (trapped : Option ℕ) → AreStruck p strikes struck trapped → All (IsStrike p.bounds) strikes → All (λ s. Ordered s.changes) struck
 all_ordered p [] struck trapped are fits = subst (All (λ s. Ordered s.changes)) (sym are.0) (All-nil (λ (s : Struck). Ordered s.changes))
 all_ordered p (cs ∷ rest) [] trapped are fits = All-nil (λ (s : Struck). Ordered s.changes)
@@ -51,7 +51,7 @@ all_ordered p (cs ∷ rest) (s ∷ struck) trapped are fits =
     (all_ordered p rest struck trapped are.2 (All-tail (IsStrike p.bounds) cs rest fits))
 
 -- ---- verdicts that are known
--- none
+-- no verdict is known
 pub none_known : (p : Pair) (strikes : List (List Change)) (n : ℕ) (found : List (Option Verdict)) → found ≡ replicate n None → AreKnown p strikes found
 none_known p strikes n found e k cs known there got =
     let all : slice_get (replicate n None) k ≡ Some known = subst (λ xs. slice_get xs k ≡ Some known) e got in
@@ -60,7 +60,7 @@ none_known p strikes n found e k cs known there got =
     let none : known ≡ None = sym (get_or_from_slice_get (replicate n None) k known None all) ∙ get_or-replicate n k None None (omega (arith, within, size)) in
     subst (IsKnown p cs) (sym none) tt
 
--- one more
+-- one more verdict is known
 known_at :
     (p : Pair) (found after : List (Option Verdict)) (k j : ℕ) (ds : List Change) (r q : Option Verdict) → k < length found → after ≡ set found k r → slice_get after j ≡ Some q
     → (j ≡ k → IsKnown p ds r) → (slice_get found j ≡ Some q → IsKnown p ds q) → (j ≡ k) ⊎ (j ≡ k → ⊥) → IsKnown p ds q

@@ -1,4 +1,4 @@
--- What an output is made ready with.
+-- The premises of the runs of an output.
 use Rattle.std.proofs.Common.{ℕ, zero, suc, ◌≤◌, Bool, Option, Some, None, List, inl, inr, refl, sym, ap, ◌∙◌, subst, arith}
 use Rattle.std.specs.Prelude.{IsSome, Ok}
 use Rattle.tests.specs.declared.options.Options.{Options}
@@ -12,7 +12,7 @@ use Rattle.transform.specs.declared.error.TransformError.{TransformError}
 use Rattle.transform.specs.Transform.{IsErrorOr}
 use Rattle.campaign.specs.Draw.{HasWords, word_count, data_ranges, ElfFile, Plan}
 
--- where there are data words there is a bound for them
+-- if there are data words, they have a bound
 some_bound : (n round start piece : ℕ) → 1 ≤ n → IsSome (word_bound n round start piece)
 some_bound zero round start piece h = absurd (omega arith)
 some_bound (suc n) round start piece h = refl
@@ -33,7 +33,7 @@ has_words f o blocks plan told = record {
 
 -- ---- both runs
 
--- an output is no error
+-- an output is never an error
 pub never_error : {A : Type 0} (made : A) (e : TransformError) → IsErrorOr (Ok made) e → ⊥
 never_error made e (inl same) = cc
 never_error made e (inr same) = cc

@@ -1,4 +1,4 @@
--- A strike that begins at a later state shows what it shows from the start, where no change comes before.
+-- A strike that begins at a later state shows the verdict from the start, if no change comes before.
 use Rattle.std.proofs.Common.{◌≡◌, ◌⊎◌, inl, inr, ℕ, zero, suc, ◌+◌, ◌-◌, ◌<◌, ◌≤◌, Bool, true, false, cond, ◌||◌, List, [], ◌∷◌, refl, sym, ap, ◌∙◌, subst, arith}
 use Rattle.std.specs.Prelude.{◌==◌, Option, Some, Result, Ok, Err, All}
 use Rattle.std.proofs.lemmas.Bool.{cases_lt, eq-eqb, ne_eqb, eqb-true}
@@ -17,12 +17,12 @@ use Rattle.campaign.specs.Later.{counted_from, all_from, first_step}
 use Rattle.campaign.specs.Verdict.{GoesPast, has_closed, IsTried, IsFound, IsSilent, Shows, IsVerdict, Change, Verdict, Outcome, bound_of, Bounds, is_trapped, is_closed_place}
 use Rattle.campaign.proofs.Stopping.{going_before, behind}
 
--- ---- where no change comes before
+-- ---- no change comes before
 -- before the changes the run is the one without
 unchanged_before : (s : State) (cs : List Change) (n : ℕ) → AllFrom (n + 1) cs → changed_run s cs n ≡ run s n
 unchanged_before s cs n from = ap (λ p. p.state) (not_made (begun s) [] cs n from) ∙ run_unchanged s n
 
--- up to the first changes
+-- the run up to the first changes: the run without changes, then the changes at its step
 up_to : (s : State) (cs : List Change) (m : ℕ) → AllFrom m cs → changed_run s cs m ≡ with_changes cs m (run s m)
 unfolding changed_run run
 up_to s cs zero from = refl
@@ -38,7 +38,7 @@ same_step a m n h = by_case (a == m + n) refl where
   by_case true e = let x : a ≡ m + n = eqb-true a (m + n) e in eq-eqb (a - m) n (omega (arith, x)) ∙ sym e
   by_case false e = ne_eqb (a - m) n (λ x. let y : a ≡ m + n = omega (arith, x, h) in let z : (a == m + n) ≡ true = eq-eqb a (m + n) y in cc) ∙ sym e
 
--- the same change
+-- a change counted from m on changes alike
 same_change : (o : Outcome) (m : ℕ) (c : Change) (s : State) → changed_as o (counted_from m c) s ≡ changed_as o c s
 same_change Going m c s = refl
 same_change o m c s = refl
@@ -60,19 +60,19 @@ shifted s cs m (suc n) from =
     ap (changed_run s cs) e ∙ ap (λ x. with_changes cs (suc (m + n)) (step x)) (shifted s cs m n from)
     ∙ ap (λ k. with_changes cs k (step (changed_run (run s m) (all_from m cs) n))) (sym e) ∙ sym (with_later cs m (suc n) _ from)
 
--- the last step
+-- the last step, counted from m on
 pub last_later : (cs : List Change) (m : ℕ) → last_step (all_from m cs) ≡ last_step cs - m
 last_later [] m = omega arith
 last_later (c ∷ []) m = refl
 last_later (c ∷ d ∷ cs) m = last_later (d ∷ cs) m
 
--- steps do not fall
+-- steps counted from m on do not fall
 pub ordered_later : (cs : List Change) (m : ℕ) → Ordered cs → Ordered (all_from m cs)
 ordered_later [] m o = tt
 ordered_later (c ∷ []) m o = tt
 ordered_later (c ∷ d ∷ cs) m o = (omega (arith, o.0), ordered_later (d ∷ cs) m o.1)
 
--- all come at or behind the first
+-- if the first change does not come before m, none does
 pub from_first : (cs : List Change) (m : ℕ) → Ordered cs → m ≤ first_step cs → AllFrom m cs
 from_first [] m o h = tt
 from_first (c ∷ []) m o h = (h, tt)
@@ -102,7 +102,7 @@ closed_later s (c ∷ cs) m from =
     let there : run (run s m) (c.step - m) ≡ run s c.step = sym (run-more s m (c.step - m)) ∙ ap (run s) e in
     ap (λ x. is_closed_place x c.place || has_closed (run s m) (all_from m cs)) there ∙ ap (λ b. is_closed_place (run s c.step) c.place || b) (closed_later s cs m from.1)
 
--- what is found
+-- what is found from a later state is found from the start
 found_later :
     (s : State) (cs : List Change) (m b : ℕ) (how : Outcome) (k : ℕ) → AllFrom m cs → m ≤ last_step cs → GoesPast s cs
     → IsFound (run s m) b (all_from m cs) how k → IsFound s b cs how k
@@ -123,7 +123,7 @@ found_later s cs m b how k from h reached f =
         let e : m + (i - m) ≡ i = omega arith in
         ap (λ n. (changed_run s cs n).outcome) (sym e) ∙ ap (λ y. y.outcome) (shifted s cs m (i - m) from) ∙ f.stops.before (i - m) (omega arith)
 
--- and the other way
+-- what is found from the start is found from a later state
 found_from :
     (s : State) (cs : List Change) (m b : ℕ) (how : Outcome) (k : ℕ) → AllFrom m cs → m ≤ last_step cs → GoesPast s cs
     → IsFound s b cs how k → IsFound (run s m) b (all_from m cs) how k
@@ -161,7 +161,7 @@ silent_later s cs m b from h reached x = record {
   no_end = λ k f. x.no_end k (found_from s cs m b Ended k from h reached f);
 }
 
--- the answer
+-- the answer from a later state is that from the start
 pub shows_later :
     (input output : State) (b : ℕ) (cs : List Change) (m : ℕ) (r : Result Verdict StrikeError) → AllFrom m cs → m ≤ last_step cs
     → Shows (run input m) (run output m) b (all_from m cs) r → Shows input output b cs r
@@ -180,7 +180,7 @@ shows_later input output b cs m (Err (error.Trapped pc)) from h x =
     (t, silent_later output cs m b from h t.reached x.1, record { cause = x.2.cause; trapped = ap (λ y. y.outcome) (sym (run_later input cs m b h)) ∙ x.2.trapped })
 shows_later input output b cs m (Err error.Memory) from h x = tt
 
--- the same, where the output stands after some steps that are not behind the first change
+-- the answer of a strike, if the output has made some steps, at most up to the first change
 pub strike_shows :
     (input output v : State) (bounds : Bounds) (cs later : List Change) (m b : ℕ) (r : Result Verdict StrikeError) → bound_of bounds cs ≡ Some b → Ordered cs
     → m ≤ first_step cs → v ≡ run output m → later ≡ all_from m cs → Shows (run input m) v b later r
@@ -191,19 +191,19 @@ strike_shows input output v bounds cs later m b r bound o h is_output is_later x
     let from_both : Shows (run input m) (run output m) b (all_from m cs) r = subst (λ ds. Shows (run input m) (run output m) b ds r) is_later from_output in
     subst (λ k. Shows input output k cs r) same (shows_later input output b cs m r (from_first cs m o h) (last_from cs m o h) from_both)
 
--- the input's trap, told of it at the start
+-- the input's trap, known from the start, in terms of the later state
 pub trap_later :
     (input : State) (cs later : List Change) (m b : ℕ) (pc : Option ℕ) → Ordered cs → m ≤ first_step cs → later ≡ all_from m cs
     → pc ≡ trap_pc_of (run input (last_step cs + b)).outcome → pc ≡ trap_pc_of (run (run input m) (last_step later + b)).outcome
 trap_later input cs later m b pc o h is_later e =
     e ∙ ap (λ s. trap_pc_of s.outcome) (sym (run_later input cs m b (last_from cs m o h))) ∙ ap (λ ds. trap_pc_of (run (run input m) (last_step ds + b)).outcome) (sym is_later)
 
--- the changes are not before the copy
+-- no change comes before the copy
 pub not_before_all : (cs : List Change) (m : ℕ) → Ordered cs → m ≤ first_step cs → All (λ c. m ≤ c.step) cs
 not_before_all cs m o h = every_all (λ c. m ≤ c.step) cs (from_first cs m o h)
 
 -- ---- behind the last change
--- the changed run, where its changes are made from a later state on
+-- the changed run, if its changes are made from a later state on
 pub behind_later :
     (s t u v : State) (cs ds : List Change) (m k : ℕ) → Ordered cs → m ≡ first_step cs → t ≡ run s m → ds ≡ all_from m cs → u ≡ changed_run t ds (last_step ds) → v ≡ run u k
     → v ≡ changed_run s cs (last_step cs + k)

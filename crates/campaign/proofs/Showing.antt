@@ -11,7 +11,7 @@ use Rattle.campaign.specs.Verdict.{IsTried, IsFound, IsSilent, StopsAt, Shows, C
 use Rattle.campaign.proofs.Stopping.{run_as, changed_as_at, changed_before, first_stop, behind, StopsBy}
 
 -- ---- a run that stops behind the last change
--- it stopped at once: then it stopped first by the last change
+-- a run that stops at once stopped by the last change
 stopped_before : (s : State) (cs : List Change) (b : ℕ) (how : Outcome) → (changed_run s cs (last_step cs)).outcome ≢ Going → (changed_run s cs (last_step cs)).outcome ≡ how → IsFound s b cs how 0
 stopped_before s cs b how x e =
     let first : StopsBy (changed_run s cs) (last_step cs) = first_stop (changed_run s cs) (last_step cs) x in
@@ -66,7 +66,7 @@ shows_found input output b cs v o t x = by_outcome (run (changed_run output cs (
   by_outcome (Trapped cause pc) e is = absurd (cc)
 
 -- ---- a run that shows nothing
--- what stopped within the bound is so at its end
+-- a run that stopped within the bound is stopped at its end
 at_end : (s : State) (cs : List Change) (b : ℕ) (how : Outcome) (k : ℕ) → Ordered cs → IsFound s b cs how k → (run (changed_run s cs (last_step cs)) b).outcome ≡ how
 at_end s cs b how k o f =
     let same = changed_as_at s cs f.steps (last_step cs + b) f.within f.stops.stopped in
@@ -78,7 +78,7 @@ is_silent s cs b o x = record {
   no_end = λ k f. let n : verdict_of Ended 0 ≡ None = subst (λ h. verdict_of h 0 ≡ None) (at_end s cs b Ended k o f) x.shows_none in cc;
 }
 
--- what stopped by a trap is so when the bound is over
+-- an outcome without a verdict has none, whatever the number of steps
 no_verdict : (o : Outcome) (k : ℕ) → verdict_of o k ≡ None → verdict_of o 0 ≡ None
 no_verdict Going k e = refl
 no_verdict Ended k e = absurd (cc)
@@ -106,7 +106,7 @@ no_trap Ended e = refl
 no_trap Fired e = refl
 no_trap (Trapped cause p) e = absurd (cc)
 
--- where the output shows nothing, the input's run decides
+-- if the output shows nothing, the input's run decides
 pub shows_input :
     (input output : State) (b : ℕ) (cs : List Change) (trap : Option ℕ) → Ordered cs → IsSilentAt output b cs → trap ≡ trap_pc_of (run input (last_step cs + b)).outcome
     → Shows input output b cs (input_shows trap)
@@ -116,7 +116,7 @@ shows_input input output b cs (Some pc) o x e =
 shows_input input output b cs None o x e = (x.tried, is_silent output cs b o x.still, no_trap (run input (last_step cs + b)).outcome (sym e))
 
 -- ---- the output alone
--- what is shown whatever the input is
+-- the verdict for any input
 pub shown_all :
     (output : State) (b : ℕ) (cs : List Change) (r : Option Verdict) → Ordered cs → IsTried output cs
     → (let s = changed_run output cs (last_step cs) in MatchOption r (IsStill s b) (Stops s b))
@@ -124,7 +124,7 @@ pub shown_all :
 shown_all output b cs None o t x = record { tried = t; still = x }
 shown_all output b cs (Some v) o t x = λ input. shows_found input output b cs v o t x
 
--- where there is no verdict
+-- from an answer without a verdict
 pub where_none : (r : Option Verdict) (P : Type 0) (Q : Verdict → Type 0) → ((v : Verdict) → r ≡ Some v → ⊥) → MatchOption r P Q → P
 where_none None P Q n x = x
 where_none (Some v) P Q n x = absurd (n v refl)

@@ -1,4 +1,4 @@
--- Runs that stop: where they first do so, and that they stay.
+-- Runs that stop: when they do, and that they stay stopped.
 use Rattle.std.proofs.Common.{◌≡◌, ◌⊎◌, inl, inr, ℕ, zero, suc, ◌+◌, ◌-◌, ◌<◌, ◌≤◌, Bool, true, false, cond, List, [], ◌∷◌, refl, sym, ap, ◌∙◌, arith, below_more}
 use Rattle.std.specs.Prelude.{◌≢◌, ◌==◌}
 use Rattle.machine.specs.declared.outcome.Outcome.TheVariants.{Going}
@@ -25,7 +25,7 @@ step_stopped : (s : State) → s.outcome ≢ Going → step s ≡ s
 unfolding step
 step_stopped s h = stays_at s.outcome s h
 
--- nor do changes
+-- changes of a stopped state change nothing
 changed_stopped : (o : Outcome) (c : Change) (s : State) → o ≢ Going → changed_as o c s ≡ s
 changed_stopped Going c s h = absurd (h refl)
 changed_stopped o c s h = refl
@@ -61,7 +61,7 @@ run_as s k n h x =
 pub changed_as_at : (s : State) (cs : List Change) (k n : ℕ) → k ≤ n → (changed_run s cs k).outcome ≢ Going → changed_run s cs n ≡ changed_run s cs k
 changed_as_at s cs k n h x = let e : k + (n - k) ≡ n = omega arith in ap (changed_run s cs) (sym e) ∙ changed_stays s cs k (n - k) x
 
--- so what goes on after n steps went on before
+-- a run that goes on after n steps went on before
 pub going_before : (s : State) (k n : ℕ) → k ≤ n → (run s n).outcome ≡ Going → (run s k).outcome ≡ Going
 going_before s k n h g =
     elim (going_or (run s k).outcome) [ inl e ↦ e | inr x ↦ absurd (x (ap (λ y. y.outcome) (sym (run_as s k n h x)) ∙ g)) ]
@@ -70,14 +70,14 @@ pub changed_before : (s : State) (cs : List Change) (k n : ℕ) → k ≤ n → 
 changed_before s cs k n h g =
     elim (going_or (changed_run s cs k).outcome) [ inl e ↦ e | inr x ↦ absurd (x (ap (λ y. y.outcome) (sym (changed_as_at s cs k n h x)) ∙ g)) ]
 
--- ---- where a run first stops
--- it stops first after at most n steps
+-- ---- when a run stops
+-- the run stops after at most n steps
 pub record StopsBy (states : ℕ → State) (n : ℕ) : Type 0 where
   pub steps : ℕ
   pub within : steps ≤ n
   pub stops : StopsAt states steps
 
--- it goes on below n, or stops first there
+-- a run goes on below n, or stops after at most n
 below : (states : ℕ → State) (n : ℕ) → ((k : ℕ) → k < n → (states k).outcome ≡ Going) ⊎ StopsBy states n
 below states zero = inl (λ k h. absurd (omega arith))
 below states (suc n) = more (below states n) (going_or (states n).outcome) where
@@ -91,7 +91,7 @@ below states (suc n) = more (below states n) (going_or (states n).outcome) where
       last : (k : ℕ) → k < suc n → (states k).outcome ≡ Going
       last k l = let m : k < n + 1 = omega arith in below_more _ _ h g k m
 
--- what has stopped after n steps stopped first after at most as many
+-- a run that has stopped after n steps stopped after at most n
 pub first_stop : (states : ℕ → State) (n : ℕ) → (states n).outcome ≢ Going → StopsBy states n
 first_stop states n x =
     elim (below states n) [ inl h ↦ record { steps = n; within = omega arith; stops = record { stopped = x; before = h } } | inr s ↦ s ]

@@ -1,4 +1,4 @@
--- A run with one word changed, which goes the way of the run without changes as long as that touches no byte of the word.
+-- A run with one word changed: it goes the way of the run without changes as long as that touches no byte of the word.
 use Rattle.std.proofs.Common.{◌≡◌, ℕ, ◌+◌, ◌^◌, ◌<◌, Bool, true, false, cond, List, [], ◌∷◌, Some, None, refl, sym, ap, ◌∙◌, subst, arith}
 use Rattle.std.specs.Prelude.{◌==◌}
 use Rattle.std.proofs.lemmas.Bool.{eq-eqb, eqb-true}

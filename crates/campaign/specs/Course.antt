@@ -1,4 +1,4 @@
--- What a test and its output are made ready to: both run from registers that are all 0.
+-- A test and its output, made ready to be struck: both run from registers that are all 0.
 use Rattle.std.specs.Prelude.{◌≡◌, ℕ, List}
 use Rattle.tests.specs.declared.options.Options.{Options}
 use Rattle.tests.specs.Files.File.{File}
@@ -8,13 +8,13 @@ use Rattle.machine.specs.Step.{State}
 use Rattle.transform.specs.Transform.{Transforms}
 use Rattle.campaign.specs.Prepared.{Prepared}
 
--- the state in which the file that bytes are starts, with all registers 0
+-- the starting state of the file with these bytes, all registers 0
 pub record StartsIn (bytes : List ℕ) (state : State) : Type 0 where
   pub file : ElfFile
   pub read : File bytes file
   pub is : state ≡ start (loaded_file file) zeros
 
--- the input is transformed to an output of which the plan tells, and the runs are those of both
+-- the input is transformed to an output with this plan, and the runs are those of both
 pub record IsCourse (input : List ℕ) (o : Options) (course : Prepared) : Type 0 where
   pub output : List ℕ
   pub transforms : Transforms input o output course.plan

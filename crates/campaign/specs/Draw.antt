@@ -1,4 +1,4 @@
--- How the strikes of a campaign are drawn: three random words for each change, in this order: for its step, its place and its value.
+-- How the strikes of a campaign are drawn: each change takes three random words, for its step, its place and its value.
 use Rattle.std.specs.Prelude.{◌≡◌, ◌≤◌, ℕ, ◌+◌, ◌-◌, ◌*◌, ◌%◌, nat_lt, max, Bool, true, if◌then◌else◌, List, map, Option, None, Some, IsSome, unwrap_or}
 use Rattle.rv_isa.specs.declared.profile.TheConstants.{ORIGINALS}
 use Rattle.rand_pcg.specs.Lcg.{Lcg}
@@ -16,11 +16,11 @@ pub use Rattle.qed_model.specs.Promise.Changed.{in_order, has_word, is_word, wit
 pub use Rattle.test_gen.specs.Random.{seeded, drawn, next, after}
 
 -- ---- places
--- place q of 13 and the data words: x1 to x13, and then the words
+-- place q of 13 and the data words: x1 to x13, then the words
 unfoldable pub numbered_place : List (ℕ × ℕ) → ℕ → Place
 numbered_place spans q = if nat_lt q ORIGINALS then Reg (q + 1) else Word (word_address spans (q - ORIGINALS))
 
--- the plan tells how many data words its ranges have, and has a bound for words where there are some
+-- the plan counts the data words of its ranges, and has a bound for words if there are some
 pub record HasWords (plan : Plan) : Type 0 where
   pub count : plan.words ≡ word_count (map range_of plan.span)
   pub bound : 1 ≤ plan.words → IsSome plan.bounds.word
@@ -37,29 +37,29 @@ drawn_place None spans word = numbered_place spans (word % (ORIGINALS + word_cou
 drawn_place (Some Registers) spans word = Reg (word % ORIGINALS + 1)
 drawn_place (Some Words) spans word = Word (word_address spans (word % word_count spans))
 
--- how many steps there are, from the least on, for an output that goes on before `reach`; one at least
+-- from how many steps one is drawn, for an output that goes on before `reach`; at least one
 abbrev pub window : Aim → ℕ → ℕ
 window aim reach = max 1 (unwrap_or aim.to reach - aim.from)
 
 -- ---- changes
--- by three words
+-- the change that three words give
 abbrev pub change_of : List (ℕ × ℕ) → ℕ → Aim → ℕ → ℕ → ℕ → Change
 change_of spans reach aim first second third = record { step = aim.from + first % window aim reach; place = drawn_place aim.only spans second; value = third }
 
--- by the next three words
+-- the change that the next three words give
 unfoldable pub drawn_change : List (ℕ × ℕ) → ℕ → Aim → Lcg → Change
 drawn_change spans reach aim g = change_of spans reach aim (drawn g) (drawn (next g)) (drawn (next (next g)))
 
 -- ---- strikes
--- so many changes, in the order of their steps, those of equal steps as they were drawn
+-- n changes, in the order of their steps; those of equal steps as they were drawn
 unfoldable pub drawn_strike : List (ℕ × ℕ) → ℕ → Aim → ℕ → Lcg → List Change
 drawn_strike spans reach aim changes g = in_order (each changes (λ k. drawn_change spans reach aim (after (3 * k) g)))
 
--- how many there are: none without a place
+-- how many strikes there are: none without a place
 abbrev pub strike_count : Draws → ℕ → ℕ
 strike_count d words = if has_place d.aim.only words then d.count else 0
 
--- so many strikes of a seed, one after another
+-- n strikes of a seed, one after another
 unfoldable pub drawn_strikes : List (ℕ × ℕ) → ℕ → Draws → List (List Change)
 drawn_strikes spans reach d =
     each (strike_count d (word_count spans)) (λ i. drawn_strike spans reach d.aim d.changes (after (3 * d.changes * i) (seeded d.seed)))

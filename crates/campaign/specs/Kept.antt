@@ -1,4 +1,4 @@
--- What is kept of an input's run and of an output's run: copies of the machine after every 4,096 steps.
+-- What is kept of an input's run and an output's run: copies of the machine after every 4,096 steps.
 use Rattle.std.specs.Prelude.{◌≡◌, ◌≢◌, ℕ, ◌+◌, ◌*◌, ◌/◌, ◌<◌, ◌≤◌, ◌⊎◌, List, length, refl}
 use Rattle.std.specs.Coded.{Coded, code_by, coded×, coded_ℕ}
 use Rattle.qed_model.specs.declared.bounds.Bounds.{Bounds}
@@ -10,17 +10,17 @@ use Rattle.machine.specs.Step.{State, run}
 use Rattle.rv_step.specs.Codes.{state_code}
 
 -- ---- copies of a machine
--- the least number of steps after which a run does not go on; 1,000,000 where that is greater or there is none
+-- the number of steps after which a run stops; 1,000,000 if that is greater or the run never stops
 pub record IsReach (start : State) (steps : ℕ) : Type 0 where
   pub within : steps ≤ 1000000
   pub before : (k : ℕ) → k < steps → (run start k).outcome ≡ outcome.Going
   pub ends : ((run start steps).outcome ≢ outcome.Going) ⊎ (steps ≡ 1000000)
 
--- as many copies as steps are struck in, and one more at the start
+-- how many copies there are: one for each 4,096 steps up to `reach`, and one at the start
 abbrev pub copies_up_to : ℕ → ℕ
 copies_up_to reach = reach / 4096 + 1
 
--- the state at the start, and how far the run is struck: copy i has made 4,096 * i steps more
+-- the state at the start, and up to which step the run is struck: copy i has made 4,096 * i steps more
 pub record Copied : Type 0 where
   pub start : State
   pub reach : ℕ
@@ -28,14 +28,14 @@ pub record Copied : Type 0 where
 abbrev pub copied_code : Coded Copied
 copied_code = code_by (State × ℕ) (coded× state_code coded_ℕ) (λ c. (c.start, c.reach)) (λ p. record { start = p.0; reach = p.1 }) (λ _. refl)
 
--- those behind the first
+-- the copies behind the first
 pub record AreCopies (start : Progress) (reach : ℕ) (later : List Progress) : Type 0 where
   pub is_reach : IsReach start.state reach
   pub count : length later ≡ reach / 4096
   pub there : later ≡ each (length later) (λ i. progress start (4096 * (i + 1)))
 
 -- ---- both runs
--- the states in which they begin, the bounds of changes, and how far the output is struck
+-- the states in which both runs begin, the bounds of changes, and up to which step the output is struck
 pub record Pair : Type 0 where
   pub input : State
   pub output : State

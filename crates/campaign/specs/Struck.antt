@@ -1,4 +1,4 @@
--- Strikes that are made one after the other.
+-- Strikes that are made one after another.
 use Rattle.std.specs.Prelude.{◌≡◌, ℕ, List, [], ◌∷◌, ◌++◌, slice_get, Option, Some, None, IfSome, IsSome, Ok, Err}
 use Rattle.qed_model.specs.declared.verdict.Struck.{Struck}
 use Rattle.campaign.specs.declared.error.StrikeError.TheVariants.{Trapped}
@@ -10,11 +10,11 @@ pub record IsStrike (bounds : Bounds) (cs : List Change) : Type 0 where
   pub ordered : Ordered cs
   pub bounded : IsSome (bound_of bounds cs)
 
--- a verdict, where it is known, is that of a strike
+-- a verdict, if it is known, is that of a strike
 abbrev pub IsKnown : Pair → List Change → Option Verdict → Type 0
 IsKnown p cs known = IfSome known (λ v. IsVerdict p.input p.output p.bounds cs (Ok v))
 
--- those that are known, by the numbers of their strikes
+-- the known verdicts, by the numbers of their strikes
 abbrev pub AreKnown : Pair → List (List Change) → List (Option Verdict) → Type 0
 AreKnown p strikes found = (k : ℕ) (cs : List Change) (known : Option Verdict) → slice_get strikes k ≡ Some cs → slice_get found k ≡ Some known → IsKnown p cs known
 
@@ -23,7 +23,7 @@ abbrev pub IsStruckNext : Pair → List Change → List Struck → List Struck �
 IsStruckNext p cs before after None = (s : Struck) × ((after ≡ before ++ s ∷ []) × (s.changes ≡ cs) × IsVerdict p.input p.output p.bounds cs (Ok s.verdict))
 IsStruckNext p cs before after (Some pc) = (after ≡ before) × IsVerdict p.input p.output p.bounds cs (Err (Trapped pc))
 
--- each strike with its verdict, in their order, up to the first where the input traps, and the pc of that trap
+-- each strike with its verdict, in their order, up to the first whose input traps, and the pc of that trap
 abbrev pub AreStruck : Pair → List (List Change) → List Struck → Option ℕ → Type 0
 AreStruck p [] struck trapped = (struck ≡ []) × (trapped ≡ None)
 AreStruck p (cs ∷ rest) [] trapped = (pc : ℕ) × (IsVerdict p.input p.output p.bounds cs (Err (Trapped pc)) × (trapped ≡ Some pc))

@@ -1,4 +1,4 @@
--- What changes of an output's run show. The input's run and the output's run begin in a state each, and b is the bound of the changes.
+-- What changes of an output's run show. Input and output start in a state each; b is the bound of the changes.
 use Rattle.std.specs.Prelude.{◌≡◌, ◌≢◌, ℕ, ◌+◌, ◌-◌, ◌<◌, ◌≤◌, Bool, true, false, List, Some, Result, Ok, Err}
 use Rattle.std.specs.List.{list_any}
 pub use Rattle.qed_model.specs.declared.bounds.Bounds.{Bounds}
@@ -17,21 +17,21 @@ use Rattle.campaign.specs.declared.error.StrikeError.{StrikeError}
 use Rattle.campaign.specs.declared.error.StrikeError.TheVariants.{Trapped, Memory}
 
 -- ---- the run without changes
--- it goes on after the step of the last change
+-- the run goes on after the step of the last change
 abbrev pub GoesPast : State → List Change → Type 0
 GoesPast output cs = (run output (last_step cs)).outcome ≡ outcome.Going
 
--- a place is closed in it after the step of its change
+-- a place is closed in the run after the step of its change
 abbrev pub has_closed : State → List Change → Bool
 has_closed output cs = list_any (λ c. is_closed_place (run output c.step) c.place) cs
 
 -- ---- the changed run
--- a run first does not go on after so many steps
+-- a run stops after this many steps
 pub record StopsAt (states : ℕ → State) (steps : ℕ) : Type 0 where
   pub stopped : (states steps).outcome ≢ outcome.Going
   pub before : (k : ℕ) → k < steps → (states k).outcome ≡ outcome.Going
 
--- within the bound it first does not go on, with this outcome, k steps after the last change; k is 0 where that is not behind it
+-- the run stops within the bound, with this outcome, k steps after the last change; k is 0 if it stops no later
 pub record IsFound (output : State) (b : ℕ) (cs : List Change) (how : Outcome) (k : ℕ) : Type 0 where
   pub steps : ℕ
   pub within : steps ≤ last_step cs + b
@@ -50,13 +50,13 @@ pub record TrapsAt (input : State) (b : ℕ) (cs : List Change) (pc : ℕ) : Typ
   pub cause : Cause
   pub trapped : (run input (last_step cs + b)).outcome ≡ outcome.Trapped cause pc
 
--- the output goes on up to the last change, and each place is open where it is changed
+-- the output goes on up to the last change, and each place is open when it is changed
 pub record IsTried (output : State) (cs : List Change) : Type 0 where
   pub reached : GoesPast output cs
   pub opened : has_closed output cs ≡ false
 
--- what is answered, by the first of these that holds: the output is not reached, a place is closed, a check fires or the test ends,
--- the input traps, or none of them; want of memory is told of nothing
+-- the answer is the first of these that holds: the output is not reached, a place is closed, a check fires or the test
+-- ends, the input traps, or none of them; nothing is said of want of memory
 abbrev pub Shows : State → State → ℕ → List Change → Result Verdict StrikeError → Type 0
 Shows input output b cs (Ok NotReached) = ¬ GoesPast output cs
 Shows input output b cs (Ok Closed) = GoesPast output cs × (has_closed output cs ≡ true)
@@ -66,6 +66,6 @@ Shows input output b cs (Err (Trapped pc)) = IsTried output cs × IsSilent outpu
 Shows input output b cs (Ok Same) = IsTried output cs × IsSilent output b cs × NotTrapped (run input (last_step cs + b))
 Shows input output b cs (Err Memory) = Unit {0}
 
--- the same, with the bound that the changes have
+-- the answer, with the bound of these changes
 abbrev pub IsVerdict : State → State → Bounds → List Change → Result Verdict StrikeError → Type 0
 IsVerdict input output bounds cs result = (b : ℕ) → bound_of bounds cs ≡ Some b → Shows input output b cs result

@@ -1,4 +1,4 @@
-//! A changed run that comes beside the run without changes: both go on in the same state, and the same way from there.
+//! A changed run that meets the run without changes: from equal states both go on alike.
 ghost use Rattle.std.specs.Prelude.{◌≡◌, ◌+◌, ◌*◌, ◌≤◌, true, IfOk};
 ghost use Rattle.machine.specs.Step.{State, run};
 ghost use Rattle.campaign.specs.Found.{IsOn, TellsStop};
@@ -12,11 +12,11 @@ use qed_model::Outcome;
 use rv_step::Machine;
 use std::alloc::AllocError;
 
-/// How many steps take the time in which a page is compared.
+/// In the time of how many steps a page is compared.
 const PAGE_STEPS: u64 = 32;
 
-/// Whether a machine stands as copy `number` of a run does. It may say no where it does, as where the comparison takes longer than so
-/// many steps.
+/// Whether a machine stands as copy `number` of a run does. It may wrongly say no, for example if
+/// the comparison takes longer than `steps` steps.
 fn stands_at(way: &Snapshots, number: u64, machine: &Machine, steps: u64) -> bool
     ensures { result ≡ true → machine.now.state ≡ run way.now.start (4096 * number) }
 {
@@ -27,7 +27,7 @@ fn stands_at(way: &Snapshots, number: u64, machine: &Machine, steps: u64) -> boo
 }
 
 impl<'a> Strike<'a> {
-    /// What `steps_beside` gives of a machine that stands as copy `number` does. The last copy is taken in its place.
+    /// As `steps_beside`, of a machine that stands as copy `number` does: it goes on as the last copy.
     fn leap_to_stop(
         &self,
         number: u64,
@@ -50,8 +50,8 @@ impl<'a> Strike<'a> {
         Ok(steps)
     }
 
-    /// What `steps_to_stop` gives, up to the bound, of a machine that has made `from` steps behind the last change, and may stand
-    /// after some more as the run without changes does.
+    /// As `steps_to_stop`, up to the bound, of a machine that has made `from` steps behind the last
+    /// change. It may come to stand as the run without changes does.
     pub fn steps_beside(&self, machine: &mut Machine, from: u64) -> Result<Option<u64>, AllocError>
         requires { from ≤ self.now.bound }
         ensures { (s : State) → IsOn s from machine.old.state → IfOk result (TellsStop s self.now.bound machine.new.state) }

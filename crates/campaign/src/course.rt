@@ -22,7 +22,7 @@ use std::alloc::{AllocError, Global};
 use std::marker::Model;
 use transform::{TransformError, Transformed, transform};
 
-/// A test and its output, with what is told of the output, and both runs from registers that are all 0.
+/// A test and its output with its plan, and both runs from registers that are all 0.
 #[derive(Drop)]
 pub struct Course {
     plan: Plan,
@@ -70,7 +70,7 @@ impl Course {
     ///
     /// # Errors
     ///
-    /// Those of `transform`.
+    /// The errors of `transform`.
     pub fn prepare(alloc: Global, input: &[u8], options: &Options) -> Result<Course, TransformError>
         requires { AreSoundOptions options.now }
         ensures done { IfOk result (IsCourse input.now options.now) }
@@ -86,15 +86,15 @@ impl Course {
         })
     }
 
-    /// What is told of the output.
+    /// The plan of the output.
     pub fn plan(&self) -> &Plan
         ensures { result.now ≡ self.now.plan }
     {
         &self.plan
     }
 
-    /// After how many steps the output first does not go on; 1,000,000 where that is greater or there is none. It is struck after
-    /// fewer steps.
+    /// The number of steps after which the output stops; 1,000,000 if that is greater or it never
+    /// stops. Strikes come after fewer steps.
     pub fn reach(&self) -> u64
         ensures value { result ≡ self.now.runs.reach }
         ensures reach { IsReach self.now.runs.output result }
@@ -110,7 +110,7 @@ impl Course {
         self.runs.snapshots()
     }
 
-    /// The output after 4,096 steps as often as the number says; None where the number is not below `snapshots`.
+    /// The output after 4,096 * `number` steps; None if the number is not below `snapshots`.
     pub fn snapshot(&self, number: u64) -> Option<&Machine>
         ensures none { IsNone result ↔ (copies_up_to self.now.runs.reach ≤ number) }
         ensures there { IfSome result (λ machine. machine.now.state ≡ run self.now.runs.output (4096 * number)) }
@@ -118,18 +118,18 @@ impl Course {
         self.runs.snapshot(number)
     }
 
-    /// Whether changes can be struck: their steps do not fall, and where the output has no data word, no place is a word.
+    /// Whether changes can be struck: their steps do not fall, and no place is a word if the output has no data word.
     pub fn is_strike(&self, changes: &[Change]) -> bool
         ensures { IsTrue result ↔ IsStrike self.now.plan.bounds changes.now }
     {
         self.runs.is_strike(changes)
     }
 
-    /// What changes of the output's run show. Their steps do not fall, and where the output has no data word, no place is a word.
+    /// What changes of the output's run show. Their steps do not fall; without data words no place is a word.
     ///
     /// # Errors
     ///
-    /// `Trapped` where the output shows nothing, and the input's own run traps before the bound is over; `Memory`.
+    /// `Trapped` if the output shows nothing, and the input's own run traps within the bound; `Memory`.
     pub fn strike(&self, alloc: Global, changes: &[Change]) -> Result<Verdict, StrikeError>
         requires { IsStrike self.now.plan.bounds changes.now }
         ensures { IsVerdict self.now.runs.input self.now.runs.output self.now.plan.bounds changes.now result }
@@ -137,10 +137,10 @@ impl Course {
         self.runs.strike(alloc, changes)
     }
 
-    /// The strikes that the random words of a seed make; none where only data words are struck and there are none. Each change has
-    /// three words. Its step is `from` and the first modulo `to - from`, or modulo 1 where that is less; without `to` it is `reach`.
-    /// Its place is the second modulo 13 and the number of data words: register q + 1 for number q, or from 13 on data word q - 13;
-    /// of one kind alone, it is the second modulo 13 or modulo the number of data words. Its value is the third.
+    /// The strikes that the random words of a seed make; none if only data words are struck and there are none. Each
+    /// change takes three words: its step is `from` plus the first modulo `to - from` (at least 1; `to` is by default
+    /// `reach`). Its place is the second modulo 13 and the number of data words: q is x(q + 1), or from 13 on data word
+    /// q - 13. Of one kind alone, the modulus is 13 or the number of data words. Its value is the third.
     pub fn draw(&self, alloc: Global, draws: &Draws) -> Result<Vec<Changes>, AllocError>
         ensures drawn { IfOk result (λ strikes. strikes.items ≡ drawn_strikes (map range_of self.now.plan.span) self.now.runs.reach draws.now) }
         ensures fit { IfOk result (λ strikes. All (IsStrike self.now.plan.bounds) strikes.items) }
@@ -148,7 +148,7 @@ impl Course {
         drawn_strikes(alloc, &self.plan, self.runs.reach(), draws)
     }
 
-    /// Strikes one after the other, each from the start of the runs, up to the first where the input traps, and tells how far it is.
+    /// Strikes one after another, from the start of the runs, up to the first whose input traps. Reports progress.
     pub fn strike_all(
         &self,
         alloc: Global,
@@ -164,8 +164,8 @@ impl Course {
         self.runs.strike_all(alloc, strikes, progress)
     }
 
-    /// Whether the test ended right in each of some strikes: by the end of the struck run the input had ended too, and x1 to x13 and
-    /// the data words of the original half hold what they held at its end. False where it did not end.
+    /// Whether the test ended right, for each strike: by the end of the struck run the input had ended too,
+    /// and x1 to x13 and the original data words hold its final values. False if the test did not end.
     pub fn rights(&self, alloc: Global, struck: &[Struck]) -> Result<Vec<bool>, AllocError>
         requires { All (λ s. Ordered s.changes) struck.now }
         ensures { IfOk result (λ found. found.items ≡ rights_of self.now.runs (map range_of self.now.plan.span) struck.now) }

@@ -36,7 +36,7 @@ pub fn register(number: u64) -> Reg
     rv_isa::register(number as u8 + 1)
 }
 
-/// Place `number` of the original registers and the data words: x1 to x13, and then the words.
+/// Place `number` of the originals: x1 to x13, then the data words.
 #[tactic(auto, unfolding(crate::specs::Draw::numbered_place))]
 fn place_of(ranges: &[Range], number: u64) -> Place
     ensures { result ≡ place_of_number (map range_of ranges.now) number }
@@ -48,7 +48,7 @@ fn place_of(ranges: &[Range], number: u64) -> Place
     }
 }
 
-/// The remainder by the number of original registers and data words.
+/// The remainder by the number of x1 to x13 and the data words.
 fn place_number(word: u64, words: u64) -> u64
     ensures { result ≡ word % (ORIGINALS + words) }
 {
@@ -135,8 +135,8 @@ fn strike_count(draws: &Draws, words: u64) -> u64
     }
 }
 
-/// The strikes that the random words of a seed make, for an output with this plan that first does not go on after `reach` steps. The
-/// steps of the changes of a strike do not fall.
+/// The strikes that the random words of a seed make, for an output with this plan that stops after
+/// `reach` steps. The steps of a strike's changes do not fall.
 pub fn drawn_strikes(
     alloc: Global,
     plan: &Plan,

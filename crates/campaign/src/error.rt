@@ -11,7 +11,7 @@ pub enum StrikeError {
     /// The input's own run traps before the bound is over: its pc.
     #[error("the input traps at {0}")]
     Trapped(u64),
-    /// There is no memory.
+    /// Memory ran out.
     #[error("out of memory")]
     Memory,
 }

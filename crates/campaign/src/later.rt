@@ -5,7 +5,7 @@ ghost use Rattle.campaign.specs.Later.{counted_from as counted_from_of, all_from
 use qed_model::Change;
 use std::alloc::{AllocError, Global};
 
-/// The step of the first change; 0 where there is none.
+/// The step of the first change; 0 if there is none.
 pub fn first_step(changes: &[Change]) -> u64
     ensures { result ≡ first_step_of changes.now }
 {

@@ -1,7 +1,7 @@
-//! Campaigns: a test is transformed, and the run of its output is struck many times. The contract says what each strike shows.
+//! Campaigns: transform a test and strike the run of its output many times. The contract says what each strike shows.
 //!
-//! A strike makes changes in the run of an output, drawn at random from a seed, and a verdict tells what they show. The output's run
-//! is kept, with copies on the way, so that a strike need not begin at the start, and the input's run is made once.
+//! A strike makes changes, drawn from a seed, in the run of an output; its verdict says what they show.
+//! Copies of the output's run are kept, so a strike need not begin at the start. The input runs once.
 #![tactic(auto)]
 
 mod beside;

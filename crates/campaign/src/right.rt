@@ -1,4 +1,4 @@
-//! Whether two machines have the same original values.
+//! Whether two machines have equal original values.
 ghost use Rattle.std.specs.Prelude.{◌≡◌, map};
 ghost use Rattle.std.specs.List.{list_all};
 ghost use Rattle.tests.specs.Admission.DataRanges.{range_of};
@@ -10,7 +10,7 @@ use qed_model::Range;
 use rv_isa::profile::ORIGINALS;
 use rv_step::Machine;
 
-/// Whether x1 to x13 hold the same.
+/// Whether x1 to x13 agree.
 fn same_regs(a: &Machine, b: &Machine) -> bool
     ensures { result ≡ same_regs_of a.now.state b.now.state }
 {
@@ -23,7 +23,7 @@ fn same_regs(a: &Machine, b: &Machine) -> bool
     true
 }
 
-/// The byte at an address, 0 where there is none.
+/// The byte at an address; 0 if there is none.
 #[tactic(auto, unfolding(machine::specs::Memory::byte_at))]
 fn byte(machine: &Machine, address: u64) -> u8
     ensures { result ≡ byte_at machine.now.state.memory address }
@@ -34,7 +34,7 @@ fn byte(machine: &Machine, address: u64) -> u8
     }
 }
 
-/// Whether the bytes of a range are the same.
+/// Whether the bytes of a range agree.
 fn same_bytes(a: &Machine, b: &Machine, range: &Range) -> bool
     ensures { result ≡ same_bytes_of a.now.state.memory b.now.state.memory (range_of range.now) }
 {
@@ -47,7 +47,7 @@ fn same_bytes(a: &Machine, b: &Machine, range: &Range) -> bool
     true
 }
 
-/// Whether those of all ranges are.
+/// Whether the bytes of all ranges agree.
 fn same_data(a: &Machine, b: &Machine, ranges: &[Range]) -> bool
     ensures { result ≡ list_all (same_bytes_of a.now.state.memory b.now.state.memory) (map range_of ranges.now) }
 {
@@ -59,7 +59,7 @@ fn same_data(a: &Machine, b: &Machine, ranges: &[Range]) -> bool
     true
 }
 
-/// Whether x1 to x13 and the data words of these ranges hold the same.
+/// Whether x1 to x13 and the data words of these ranges agree.
 pub fn same_values(a: &Machine, b: &Machine, ranges: &[Range]) -> bool
     ensures { result ≡ same_values_of a.now.state b.now.state (map range_of ranges.now) }
 {

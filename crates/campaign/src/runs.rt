@@ -27,10 +27,10 @@ use rv_step::Machine;
 use std::alloc::{AllocError, Global};
 use std::marker::Model;
 
-/// How many steps behind its reach an input is watched at most.
+/// The most steps that an input is watched behind its reach.
 const MOST_BEHIND: u64 = 1_000_000;
 
-/// The runs of an input and of its output, with copies of the output after every 4,096 steps as far as it is struck.
+/// The runs of an input and of its output, with copies of the output after every 4,096 steps up to its reach.
 #[derive(Drop)]
 pub struct Runs {
     input: Watched,
@@ -51,7 +51,7 @@ impl Model for Runs {
     ghost invariant = { λ r. 1 ≤ r.output.reach };
 }
 
-/// How many steps, which strikes may take at most, are worth one that is traced.
+/// Tracing one step pays off if strikes may take this many.
 const TRACED: u64 = 100;
 
 /// Whether a place is a word.
@@ -73,7 +73,7 @@ fn has_word(changes: &[Change]) -> bool
     false
 }
 
-/// The bound of changes: that of a register where no place is a word, else that of a word.
+/// The bound of changes: that of a register if no place is a word, else that of a word.
 fn bound_of(bounds: &Bounds, changes: &[Change]) -> Option<u64>
     ensures { result ≡ bound_of_changes bounds.now changes.now }
 {
@@ -98,7 +98,7 @@ fn is_ordered(changes: &[Change]) -> bool
     true
 }
 
-/// What is answered where the output shows nothing, by the pc at which the input traps, where it does.
+/// The answer when the output shows nothing, by the pc at which the input traps, if it does.
 fn input_verdict(trap: Option<u64>) -> Result<Verdict, StrikeError>
     ensures { result ≡ input_shows trap }
 {
@@ -112,7 +112,7 @@ fn input_verdict(trap: Option<u64>) -> Result<Verdict, StrikeError>
 #[derive(Debug, Drop)]
 pub struct Campaign {
     pub struck: Vec<Struck>,
-    /// The pc at which the input's own run trapped, and no strike was made any more.
+    /// The pc at which the input's own run trapped; no strike was made after that.
     pub trapped: Option<u64>,
 }
 
@@ -141,7 +141,7 @@ impl Runs {
         })
     }
 
-    /// After how many steps the output first does not go on; 1,000,000 where that is greater or there is none.
+    /// The number of steps after which the output stops; 1,000,000 if that is greater or it never stops.
     pub fn reach(&self) -> u64
         ensures value { result ≡ self.now.reach }
         ensures reach { IsReach self.now.output result }
@@ -157,7 +157,7 @@ impl Runs {
         self.output.reach() / SPACING + 1
     }
 
-    /// The output after 4,096 steps as often as the number says; None where the number is not below `snapshots`.
+    /// The output after 4,096 * `number` steps; None if the number is not below `snapshots`.
     pub fn snapshot(&self, number: u64) -> Option<&Machine>
         ensures none { IsNone result ↔ (copies_up_to self.now.reach ≤ number) }
         ensures there { IfSome result (λ machine. machine.now.state ≡ run self.now.output (4096 * number)) }
@@ -165,19 +165,19 @@ impl Runs {
         self.output.at(number)
     }
 
-    /// Whether changes can be struck: their steps do not fall, and where a place is a word, the bounds have one for words.
+    /// Whether changes can be struck: their steps do not fall, and if a place is a word, there is a bound for words.
     pub fn is_strike(&self, changes: &[Change]) -> bool
         ensures { IsTrue result ↔ IsStrike self.now.bounds changes.now }
     {
         is_ordered(changes) && bound_of(&self.bounds, changes).is_some()
     }
 
-    /// What changes of the output's run show. Their steps do not fall; where a place is a word, the bounds have one for words.
+    /// What changes of the output's run show. Steps do not fall; a change of a word needs a bound for words.
     ///
     /// # Errors
     ///
-    /// `Trapped` where the input's own run traps before the bound is over, no check fires and the test does not end before, and no
-    /// place is closed; `Memory`.
+    /// `Trapped` if the input traps within the bound, no check fires and the test does not end
+    /// before, and no place is closed; `Memory`.
     pub fn strike(&self, alloc: Global, changes: &[Change]) -> Result<Verdict, StrikeError>
         requires { IsStrike self.now.bounds changes.now }
         ensures { IsVerdict self.now.input self.now.output self.now.bounds changes.now result }
@@ -186,7 +186,7 @@ impl Runs {
         self.strike_at(alloc, &Trace::none(alloc), output, changes)
     }
 
-    /// The same, with the output as it stands at the first change.
+    /// As `strike`, with the output as it stands at the first change.
     fn strike_at(
         &self,
         alloc: Global,
@@ -218,7 +218,7 @@ impl Runs {
         input_verdict(trap)
     }
 
-    /// The same, of a copy of the output. None where the input traps.
+    /// As `strike_at`, on a copy of the output. None if the input traps.
     fn known_verdict(
         &self,
         alloc: Global,
@@ -239,7 +239,7 @@ impl Runs {
         }
     }
 
-    /// What the output's run touches, as far as it is struck, where so many strikes are worth that it is traced.
+    /// What the output's run touches, up to its reach; nothing is traced if there are too few strikes.
     fn traced(&self, alloc: Global, strikes: &[Changes]) -> Result<Trace, AllocError>
         ensures { IfOk result (IsTrace self.now.output) }
     {
@@ -253,8 +253,8 @@ impl Runs {
         Ok(trace)
     }
 
-    /// The verdicts of strikes, which are made in the order of their first changes, so that the output goes along its run once. None where
-    /// one is not known: where the input traps, and behind that.
+    /// The verdicts of strikes, made in the order of their first changes, so that the output goes
+    /// along its run once. None for one whose input traps; behind that, any verdict may be None.
     fn verdicts(
         &self,
         alloc: Global,
@@ -292,7 +292,7 @@ impl Runs {
         Ok(found)
     }
 
-    /// The output so many steps behind the last change.
+    /// The changed output, `steps` steps behind the last change.
     fn changed(&self, alloc: Global, changes: &[Change], steps: u64) -> Result<Machine, AllocError>
         requires { Ordered changes.now }
         ensures { IfOk result (λ machine. machine.state ≡ changed_run self.now.output changes.now (last_step_of changes.now + steps)) }
@@ -305,7 +305,7 @@ impl Runs {
         Ok(output)
     }
 
-    /// Whether a test that ended so many steps behind the last change ended right.
+    /// Whether a test that ended `steps` steps behind the last change ended right.
     #[tactic(auto, unfolding(crate::specs::Right::ends_right))]
     fn ends_right(
         &self,
@@ -327,7 +327,7 @@ impl Runs {
         Ok(same_values(&output, &input, spans))
     }
 
-    /// The same of a strike; false where the test did not end.
+    /// Whether a strike ended right; false if the test did not end.
     fn is_right(&self, alloc: Global, spans: &[Range], struck: &Struck) -> Result<bool, AllocError>
         requires { Ordered struck.now.changes }
         ensures { IfOk result (λ right. right ≡ is_right_of self.now (map range_of spans.now) struck.now) }
@@ -340,8 +340,8 @@ impl Runs {
         }
     }
 
-    /// Whether the test ended right in each of some strikes, with these data ranges: by the end of the struck run the input had ended
-    /// too, and x1 to x13 and the data words hold what they held at its end. False where it did not end.
+    /// Whether the test ended right, for each strike: by the end of the struck run the input had ended too,
+    /// and x1 to x13 and the data words of these ranges hold its final values. False if the test did not end.
     pub fn rights(
         &self,
         alloc: Global,
@@ -359,7 +359,7 @@ impl Runs {
         Ok(found)
     }
 
-    /// Adds a strike with its verdict, which is made where it is not known, or gives the pc where the input traps.
+    /// Adds a strike with its verdict, which is computed if not known. Returns the pc if the input traps.
     fn strike_next(
         &self,
         alloc: Global,
@@ -384,8 +384,8 @@ impl Runs {
         Ok(None)
     }
 
-    /// Strikes one after the other, each of the runs from their start, up to the first where the input traps, and tells of how many
-    /// the verdict is known.
+    /// Strikes one after another, each from the start of the runs, up to the first whose input
+    /// traps. Reports how many verdicts are known.
     pub fn strike_all(
         &self,
         alloc: Global,
@@ -413,7 +413,7 @@ impl Runs {
     }
 }
 
-/// How many of some strikes are one change of a word.
+/// How many strikes are one change of a word.
 fn count_words(strikes: &[Changes]) -> u64 {
     let mut count: u64 = 0;
     for strike in strikes {
@@ -425,7 +425,7 @@ fn count_words(strikes: &[Changes]) -> u64 {
     count
 }
 
-/// Before which number strikes are made yet, behind one with a number below it: where its input traps, no later one is asked for.
+/// The number below which strikes are still made, after that of strike `number`: none after one whose input traps.
 fn end_behind(end: usize, number: usize, verdict: Option<Verdict>) -> usize
     requires { number < end }
     ensures { result ≤ end }
@@ -436,7 +436,7 @@ fn end_behind(end: usize, number: usize, verdict: Option<Verdict>) -> usize
     }
 }
 
-/// The numbers of strikes, each behind the step of its first change, in the order of these.
+/// The numbers of strikes with the steps of their first changes, in the order of these steps.
 fn in_order(alloc: Global, strikes: &[Changes]) -> Result<Vec<(u64, usize)>, AllocError>
     ensures sorted { IfOk result (λ order. IsNonDecreasingBy (λ p. p.0) order.items) }
     ensures count { IfOk result (λ order. length order.items ≡ length strikes.now) }

@@ -10,14 +10,14 @@ use std::marker::Model;
 /// How many steps are between two copies.
 pub const SPACING: u64 = 4096;
 
-/// The greatest number of steps after which an output is struck, and one more.
+/// The greatest number of steps after which an output is struck, plus one.
 const MAX_REACH: u64 = 1_000_000;
 
-/// How many copies there may be behind the first.
+/// The most copies behind the first.
 const MOST: u64 = MAX_REACH / SPACING;
 
-/// A machine, copies of it after every 4,096 steps, and after how many steps it first does not go on; 1,000,000 where that is greater
-/// or there is none.
+/// A machine, copies of it after every 4,096 steps, and the number of steps after which it stops;
+/// 1,000,000 if that is greater or it never stops.
 #[derive(Drop)]
 pub struct Snapshots {
     first: Machine,
@@ -37,7 +37,7 @@ impl Model for Snapshots {
     ghost invariant = { λ s. AreCopies s.first s.reach s.later.items };
 }
 
-/// The copies of a machine behind its start, and how far its run goes on. One run makes both.
+/// The copies of a machine behind its start, and the step up to which its run goes on. One run makes both.
 fn copies(alloc: Global, machine: &mut Machine) -> Result<(Vec<Machine>, u64), AllocError>
     ensures { IfOk result (λ made. AreCopies machine.old made.1 made.0.items) }
 {
@@ -54,7 +54,7 @@ fn copies(alloc: Global, machine: &mut Machine) -> Result<(Vec<Machine>, u64), A
     Ok((later, SPACING * MOST + made))
 }
 
-/// Has copies know what the machine that made them has decoded.
+/// Lets copies use what their machine has decoded.
 fn learn(copies: &mut Vec<Machine>, machine: &Machine) -> Result<(), AllocError>
     ensures { copies.new.items ≡ copies.old.items }
 {
@@ -81,7 +81,7 @@ impl Snapshots {
         })
     }
 
-    /// After how many steps the machine first does not go on; 1,000,000 where that is greater or there is none.
+    /// The number of steps after which the machine stops; 1,000,000 if that is greater or it never stops.
     pub fn reach(&self) -> u64
         ensures value { result ≡ self.now.reach }
         ensures reach { IsReach self.now.start result }
@@ -89,7 +89,7 @@ impl Snapshots {
         self.reach
     }
 
-    /// The machine after 4,096 steps as often as the number says; None where there is no such copy.
+    /// The machine after 4,096 * `number` steps; None if it has no such copy.
     pub fn at(&self, number: u64) -> Option<&Machine>
         ensures none { IsNone result ↔ (copies_up_to self.now.reach ≤ number) }
         ensures there { IfSome result (λ machine. machine.now.state ≡ run self.now.start (4096 * number)) }
@@ -100,7 +100,7 @@ impl Snapshots {
         self.later.get(number as usize - 1)
     }
 
-    /// The machine after so many steps.
+    /// The machine after `steps` steps.
     pub fn machine_at(&self, alloc: Global, steps: u64) -> Result<Machine, AllocError>
         ensures { IfOk result (λ machine. machine.state ≡ run self.now.start steps) }
     {
@@ -110,8 +110,8 @@ impl Snapshots {
         Ok(machine)
     }
 
-    /// Brings a machine of this run, which has made `made` steps, to where it has made `steps`: from there, or from the last copy before
-    /// that, where this takes fewer.
+    /// Brings a machine of this run from step `made` to step `steps`: from where it stands, or from
+    /// the last copy before `steps` if this takes fewer steps.
     pub fn go_to(
         &self,
         alloc: Global,

@@ -1,4 +1,4 @@
-//! A run with one word changed, which goes the way of the run without changes until it touches the word.
+//! A run with one word changed; it goes the way of the run without changes until it touches the word.
 ghost use Rattle.std.specs.Prelude.{◌≡◌, IfOk};
 ghost use Rattle.machine.specs.declared.place.Place.TheVariants.{Word as InWord};
 ghost use Rattle.machine.specs.Step.{run};
@@ -13,7 +13,7 @@ use qed_model::{Change, Place};
 use rv_step::Machine;
 use std::alloc::AllocError;
 
-/// The address and the value of changes that are one of a word, made where they are counted from.
+/// The address and the value of a single change of a word at step 0.
 pub fn one_word(changes: &[Change]) -> Option<(u64, u64)>
     ensures { result ≡ one_word_of changes.now }
 {
@@ -23,7 +23,7 @@ pub fn one_word(changes: &[Change]) -> Option<(u64, u64)>
     }
 }
 
-/// Those of a change.
+/// The address and the value of one change.
 fn word_at_once(change: &Change) -> Option<(u64, u64)>
     ensures { result ≡ word_changed change.now.place change.now.step change.now.value }
 {
@@ -39,9 +39,9 @@ fn word_at_once(change: &Change) -> Option<(u64, u64)>
 }
 
 impl<'a> Strike<'a> {
-    /// What `steps_to_stop` gives, up to the bound, of a machine that stands as the run without changes does at `start`, but for one
-    /// word. Where many steps surely touch no byte of it, they are those of that run, and it goes on at the last copy before they are
-    /// over.
+    /// As `steps_to_stop`, up to the bound, of a machine that stands as the run without changes
+    /// does at `start`, but for one word. If enough steps touch no byte of that word, it takes over
+    /// that run's state after them.
     pub fn steps_spared(
         &self,
         machine: &mut Machine,

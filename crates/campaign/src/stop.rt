@@ -7,8 +7,8 @@ use qed_model::Outcome;
 use rv_step::Machine;
 use std::alloc::AllocError;
 
-/// Runs a machine, which has made `made` of at most `most` steps, until it stops or has made them all, and gives the steps after which
-/// it first does not go on; None where it still goes on after all of them.
+/// Runs a machine, which has made `made` of at most `most` steps, until it stops or has made them
+/// all. Returns the number of steps after which it stops; None if it still goes on after all.
 pub fn steps_to_stop(machine: &mut Machine, made: u64, most: u64) -> Result<Option<u64>, AllocError>
     requires { made ≤ most }
     ensures { (s : State) → IsOn s made machine.old.state → IfOk result (TellsStop s most machine.new.state) }

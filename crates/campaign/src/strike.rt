@@ -8,23 +8,23 @@ use qed_model::Change;
 use rv_step::Machine;
 use std::alloc::{AllocError, Global};
 
-/// Changes of a run that is kept.
+/// Changes of a run with copies.
 #[derive(Clone, Copy)]
 pub struct Strike<'a> {
     pub alloc: Global,
-    /// The run without changes, with its copies,
+    /// The run without changes, with its copies.
     pub way: &'a Snapshots,
-    /// and what it touches.
+    /// What that run touches.
     pub trace: &'a Trace,
-    /// The step of that run from which those of the changes are counted.
+    /// The step of that run from which the changes count theirs.
     pub start: u64,
     pub changes: &'a [Change],
-    /// How many steps the changed run makes at most behind the last change.
+    /// The most steps of the changed run behind the last change.
     pub bound: u64,
 }
 
 impl<'a> Strike<'a> {
-    /// Brings a machine of the run without changes on: it has made `from` steps behind `start`, and then has made `to`.
+    /// Brings a machine of the run without changes from `start + from` to `start + to`.
     pub fn bring(&self, machine: &mut Machine, from: u64, to: u64) -> Result<(), AllocError>
         requires there { machine.old.state ≡ run self.now.way.now.start (self.now.start + from) }
         requires order { from ≤ to }

@@ -1,4 +1,4 @@
-//! What a strike shows, where both machines stand at the step from which its changes are counted.
+//! What a strike shows, when both machines stand at the step from which its changes are counted.
 ghost use Rattle.std.specs.Prelude.{◌≡◌, IfOk, MatchOption, Ok};
 ghost use Rattle.machine.specs.Step.{State, run};
 ghost use Rattle.qed_model.specs.Promise.Changed.{Ordered, last_step as last_step_of};
@@ -14,7 +14,7 @@ use qed_model::{Change, Outcome, Verdict};
 use rv_step::Machine;
 use std::alloc::AllocError;
 
-/// The step of the last change; 0 where there is none.
+/// The step of the last change; 0 if there is none.
 pub fn last_step(changes: &[Change]) -> u64
     ensures { result ≡ last_step_of changes.now }
 {
@@ -25,7 +25,7 @@ pub fn last_step(changes: &[Change]) -> u64
     last
 }
 
-/// What is shown by a machine that stopped so many steps after the last change; None where it trapped.
+/// The verdict of a machine that stopped `steps` steps after the last change; None if it trapped.
 fn stopped_verdict(outcome: Outcome, steps: u64) -> Option<Verdict>
     ensures { result ≡ verdict_of outcome steps }
 {
@@ -37,8 +37,8 @@ fn stopped_verdict(outcome: Outcome, steps: u64) -> Option<Verdict>
 }
 
 impl<'a> Strike<'a> {
-    /// Brings a machine of the run without changes from `start` to the last change, and tells whether a place is closed where it would
-    /// be changed.
+    /// Brings a machine of the run without changes from `start` to the last change. Returns whether
+    /// a place is closed when it would be changed.
     fn has_closed(&self, machine: &mut Machine) -> Result<bool, AllocError>
         requires there { machine.old.state ≡ run self.now.way.now.start self.now.start }
         requires ordered { Ordered self.now.changes.now }
@@ -55,8 +55,8 @@ impl<'a> Strike<'a> {
         Ok(is_closed)
     }
 
-    /// What that machine shows that needs no change: it does not go on up to the last one, or a place is closed; None where neither is
-    /// so.
+    /// The verdict that needs no change: the machine stops before the last one, or a place is
+    /// closed. None if neither holds.
     fn shown_by(&self, machine: &mut Machine) -> Result<Option<Verdict>, AllocError>
         requires there { machine.old.state ≡ run self.now.way.now.start self.now.start }
         requires ordered { Ordered self.now.changes.now }
@@ -73,7 +73,7 @@ impl<'a> Strike<'a> {
         Ok(None)
     }
 
-    /// What `shown_by` tells. The output stays; it is copied where there are steps to be made.
+    /// As `shown_by`; `output` stays, and is copied if steps must be made.
     fn unchanged_verdict(&self, output: &mut Machine) -> Result<Option<Verdict>, AllocError>
         requires there { output.old.state ≡ run self.now.way.now.start self.now.start }
         requires ordered { Ordered self.now.changes.now }
@@ -89,7 +89,7 @@ impl<'a> Strike<'a> {
         Ok(verdict)
     }
 
-    /// What `steps_to_stop` gives, up to the bound, of a machine that has made its changes.
+    /// As `steps_to_stop`, up to the bound, of a machine that has made its changes.
     fn steps_behind(&self, machine: &mut Machine) -> Result<Option<u64>, AllocError>
         requires trace { IsTrace self.now.way.now.start self.now.trace.now }
         requires there { IsChangedAt (run self.now.way.now.start self.now.start) (one_word_of self.now.changes.now) machine.old.state }
@@ -101,7 +101,7 @@ impl<'a> Strike<'a> {
         }
     }
 
-    /// What the run of a machine that has made its changes shows; None where up to the bound no check fires and the test does not end.
+    /// The verdict of a machine that has made its changes; None if it neither fires nor ends in the bound.
     fn later_verdict(&self, machine: &mut Machine) -> Result<Option<Verdict>, AllocError>
         requires trace { IsTrace self.now.way.now.start self.now.trace.now }
         requires there { IsChangedAt (run self.now.way.now.start self.now.start) (one_word_of self.now.changes.now) machine.old.state }
@@ -113,8 +113,8 @@ impl<'a> Strike<'a> {
         Ok(stopped_verdict(machine.outcome(), steps))
     }
 
-    /// What the changes show of an output that stands at `start`; None where no check fires and the test does not end. The steps of the
-    /// changes do not fall.
+    /// What the changes show of an output that stands at `start`; None if no check fires and the
+    /// test does not end. The steps of the changes do not fall.
     pub fn verdict(&self, output: Machine) -> Result<Option<Verdict>, AllocError>
         requires trace { IsTrace self.now.way.now.start self.now.trace.now }
         requires there { output.state ≡ run self.now.way.now.start self.now.start }

@@ -9,7 +9,7 @@ use rv_step::Machine;
 use std::alloc::{AllocError, Global};
 use std::marker::Model;
 
-/// A machine at its start, and as it stands after so many steps, each of which it went on before.
+/// A machine at its start, and as it stands `steps` steps later; it went on before each.
 #[derive(Drop)]
 pub struct Watched {
     start: Machine,
@@ -42,7 +42,7 @@ fn trap_pc(outcome: Outcome) -> Option<u64>
 }
 
 impl Watched {
-    /// Watches a machine for so many steps, or until it stops.
+    /// Watches a machine for `most` steps, or until it stops.
     pub fn watch(alloc: Global, start: Machine, most: u64) -> Result<Watched, AllocError>
         ensures { IfOk result (λ watched. watched ≡ start.state) }
     {
@@ -55,7 +55,7 @@ impl Watched {
         })
     }
 
-    /// The pc where the machine traps within two numbers of steps; None where it does not.
+    /// The pc where the machine traps within `last + bound` steps; None if it does not.
     pub fn trap(&self, alloc: Global, last: u64, bound: u64) -> Result<Option<u64>, AllocError>
         ensures { IfOk result (λ pc. pc ≡ trap_pc_of (run self.now (last + bound)).outcome) }
     {
@@ -69,7 +69,7 @@ impl Watched {
         }
     }
 
-    /// The machine after two numbers of steps; None where it goes on before and after them.
+    /// The machine after `last + more` steps; None if it goes on before and after them.
     pub fn later(&self, alloc: Global, last: u64, more: u64) -> Result<Option<Machine>, AllocError>
         ensures there { IfOk result (λ r. IfSome r (λ machine. machine.state ≡ run self.now (last + more))) }
         ensures going { IfOk result (λ r. IfNone r ((run self.now (last + more)).outcome ≡ outcome.Going)) }

@@ -1,4 +1,4 @@
-//! What is told of a call.
+//! The text on standard error about a call.
 ghost use Rattle.std.specs.Prelude.{◌≡◌};
 ghost use Rattle.qed_words.specs.Sound.{IsSoundOrder};
 
@@ -18,7 +18,7 @@ use std::io::Error;
 use std::slice;
 use texts::{MOST_OF_NAME, MOST_OF_PATH, digits, printable};
 
-/// A call that ended: its words, what it printed, by its first bytes, and the machine's reason, of a load or a store that failed.
+/// A call that ended: its words, the first bytes that it printed, and the machine's reason for a failed load or store.
 #[derive(Clone, Copy)]
 pub struct EndedCall<'a> {
     pub words: &'a [String],
@@ -41,7 +41,7 @@ fn sources(order: &Order) -> &[Name] {
     }
 }
 
-/// The bytes of the file of a name, where it can be loaded.
+/// The bytes of a file, if it can be loaded.
 fn loaded<S: Shelf>(alloc: Global, name: &str, shelf: &mut S) -> Result<Option<Bytes>, AllocError>
     ensures { S.files shelf.new ≡ S.files shelf.old }
 {
@@ -52,7 +52,7 @@ fn loaded<S: Shelf>(alloc: Global, name: &str, shelf: &mut S) -> Result<Option<B
     }
 }
 
-/// The file of a name, where it can be read.
+/// A file, if it can be read.
 pub(crate) fn read<S: Shelf>(
     alloc: Global,
     name: &str,
@@ -73,7 +73,7 @@ pub(crate) fn address_behind(line: &str, mark: &str) -> Option<u64> {
     digits(16, 16, text.as_bytes())
 }
 
-/// Appends the name of the register that a line about a refusal has.
+/// Appends the name of the register in a line about a refusal.
 fn push_register(alloc: Global, text: &mut String, line: &str) -> Result<(), AllocError> {
     if let Some((_, number)) = line.split_once("register ") {
         if let Some(name) = digits(10, 2, number.as_bytes()).and_then(abi_name) {
@@ -83,7 +83,7 @@ fn push_register(alloc: Global, text: &mut String, line: &str) -> Result<(), All
     Ok(())
 }
 
-/// Appends the text of the line of a file, numbered from 1, of which a printed line tells.
+/// Appends the line of a file, numbered from 1, that a printed line names.
 fn push_line(alloc: Global, text: &mut String, line: &str, bytes: &[u8]) -> Result<(), AllocError> {
     let (_, number) = line.split_once("line ").unwrap_or((line, ""));
     let number = digits(10, 20, number.as_bytes()).unwrap_or(0);
@@ -99,14 +99,14 @@ fn push_line(alloc: Global, text: &mut String, line: &str, bytes: &[u8]) -> Resu
     Ok(())
 }
 
-/// Whether a line is of a limit on a file that was read, so that its sections alone need be read once more: of any but those on what is
-/// loaded and read.
+/// Whether a line names a limit on a file that was read: any limit but those on loading and
+/// reading. Then only the file's sections need reading again.
 fn was_read(line: &str) -> bool {
     let (limit, _) = line.split_once(":").unwrap_or((line, ""));
     limit.starts_with('L') && limit != "L1" && limit != "L5" && limit != "L10"
 }
 
-/// Appends the place in a file of which a line tells, or, of a limit, what takes most of it.
+/// Appends the place in a file that a line names, or for a limit the largest section.
 fn push_where(
     alloc: Global,
     text: &mut String,
@@ -136,7 +136,7 @@ fn push_where(
     Ok(())
 }
 
-/// Where a file is refused, or a limit exceeded: why and what mends it, and the place.
+/// For a refused file or an exceeded limit: why, what mends it, and the place.
 fn refused<S: Shelf>(
     alloc: Global,
     asked: &Order,
@@ -164,7 +164,7 @@ pub(crate) fn path(alloc: Global, name: &str) -> Result<String, AllocError> {
     printable(alloc, name.as_bytes(), MOST_OF_PATH)
 }
 
-/// Ends a line with the machine's reason, where there is one.
+/// Ends a line with the machine's reason, if there is one.
 pub(crate) fn push_reason(
     alloc: Global,
     text: &mut String,
@@ -208,7 +208,7 @@ fn unread<S: Shelf>(
     Ok(text)
 }
 
-/// That an output took the place of its input, or else, on a terminal, how much longer it is.
+/// That an output replaced its input, or else, on a terminal, how much longer the output is.
 fn made<S: Shelf>(
     alloc: Global,
     asked: &Order,
@@ -233,8 +233,8 @@ fn made<S: Shelf>(
     }
 }
 
-/// What a person is told of a call, by the first line that it printed: a sentence on what is wrong, and what may help. Empty
-/// where nothing is. On a terminal it is told too how much longer an output is than its test. No file is changed.
+/// The text for a person about a call, by the first line that it printed: what is wrong, and what may help. Empty if
+/// nothing is wrong. On a terminal it adds how much longer an output is than its test. Changes no file.
 pub fn advice<S: Shelf>(
     alloc: Global,
     call: &EndedCall<'_>,

@@ -11,17 +11,17 @@ use qed_model::{Options, Shape, Test};
 use std::alloc::{AllocError, Global};
 use test_admission::admit;
 
-/// How many times a number has another, to tenths, rounded up.
+/// How many times as large as `part` a number is, to tenths, rounded up.
 fn times(alloc: Global, number: u64, part: u64) -> Result<String, AllocError> {
     let tenths = (10 * u128::from(number)).div_ceil(u128::from(part.max(1)));
     format!(in alloc; "{}.{}", tenths / 10, tenths % 10)
 }
 
-/// The most steps of a piece of so many instructions, with its entry and its leave, for each of these.
+/// The most steps per instruction of a piece of `length` instructions, with its entry and its leave.
 fn steps(alloc: Global, test: &Test, options: &Options, length: u64) -> Result<String, AllocError>
     requires { 1 ≤ options.now.round }
 {
-    // Of the data words it matters here only whether there are any.
+    // Here it only matters whether there are data words.
     let ranges = test.span.as_slice().len() as u64;
     let shape = Shape {
         words: ranges,
@@ -39,7 +39,7 @@ fn steps(alloc: Global, test: &Test, options: &Options, length: u64) -> Result<S
     }
 }
 
-/// The least and the greatest length of the pieces that have instructions; None where there is no such piece.
+/// The least and the greatest length of the pieces that have instructions; None if no piece has any.
 fn lengths(blocks: &[CodeBlock]) -> Option<(u64, u64)> {
     let mut found = None;
     for block in blocks {
@@ -53,7 +53,7 @@ fn lengths(blocks: &[CodeBlock]) -> Option<(u64, u64)> {
     found
 }
 
-/// What is told of the output of a test, of which these are the bytes, with so many words of code.
+/// The text about the output of a test with these bytes; the output has `words` words of code.
 fn told(alloc: Global, bytes: &[u8], options: &Options, words: u64) -> Result<String, AllocError>
     requires { AreSoundOptions options.now }
 {
@@ -65,7 +65,7 @@ fn told(alloc: Global, bytes: &[u8], options: &Options, words: u64) -> Result<St
     };
     let blocks = blocks(alloc, &test, &file, options)?;
     let code = times(alloc, words, test.code.as_slice().len() as u64)?;
-    // Only behind these does a comparison stand, and in the lean form behind none.
+    // A comparison stands only behind these pieces, and in the lean form behind none.
     let compared = match options.lean {
         None => lengths(blocks.as_slice()),
         Some(_) => None,
@@ -80,7 +80,7 @@ fn told(alloc: Global, bytes: &[u8], options: &Options, words: u64) -> Result<St
     )
 }
 
-/// What is told of the output of a test, of which this is the name, with so many words of code: how much longer both are.
+/// How much longer the output of the test `name` is, in code and steps. It has `words` words of code.
 pub(crate) fn growth<S: Shelf>(
     alloc: Global,
     name: &str,

@@ -4,7 +4,7 @@ ghost use Rattle.std.specs.Prelude.{◌≡◌, ◌≤◌, length};
 use qed_io::{Sink, WriteError};
 use std::alloc::Global;
 
-/// How many bytes are kept: more than the lines of `run` about its end and its registers have.
+/// How many bytes are kept: more than `run` prints about its end and its registers.
 const MOST_KEPT: usize = 1024;
 
 /// A sink that hands its bytes on to another, and keeps the first of them.
@@ -14,7 +14,7 @@ pub struct Heard<K: Sink + Drop> {
     kept: Vec<u8>,
 }
 
-// Keeps those of the bytes for which there is room.
+// Keeps as many of the bytes as there is room for.
 fn keep(kept: &mut Vec<u8>, bytes: &[u8]) {
     for byte in bytes {
         if kept.len() >= MOST_KEPT || kept.push(*byte).is_err() {
@@ -24,7 +24,7 @@ fn keep(kept: &mut Vec<u8>, bytes: &[u8]) {
 }
 
 impl<K: Sink + Drop> Heard<K> {
-    /// Over a sink of which nothing is kept yet.
+    /// A sink over another; it has kept nothing yet.
     pub fn over(alloc: Global, sink: K) -> Self
         ensures { result.sink ≡ sink }
     {
@@ -34,7 +34,7 @@ impl<K: Sink + Drop> Heard<K> {
         }
     }
 
-    /// The first bytes as a text, empty where they are none, or where there was no memory.
+    /// The first bytes as a text; empty if they are none, or if memory ran out.
     pub fn text(&self) -> &str
         ensures { length result.now ≤ MOST_KEPT }
     {

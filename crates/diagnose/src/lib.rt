@@ -1,5 +1,5 @@
-//! What a person is told on standard error where a call did not do what it is for. No other program reads it, and no
-//! contract speaks of it: rows hold its texts.
+//! Texts on standard error about calls that failed. No other program reads them, and no contract
+//! mentions them: rows hold them.
 #![tactic(auto)]
 
 mod answers;

@@ -1,11 +1,11 @@
-//! Names of commands and options that are near to a word, and what `help` tells of an option.
+//! Names of commands and options that are near to a word, and what `help` says about an option.
 
 use qed_words::{COMMANDS, Command, Topic};
 use report::told;
 use std::alloc::{AllocError, Global};
 use strsim::levenshtein;
 
-/// Appends the lines of `help` about an option of a command: those of `transform`, where it is one of its options.
+/// Appends the lines of `help` about an option of a command: those of `transform`, if it has the option.
 pub(crate) fn push_lines(
     alloc: Global,
     text: &mut String,
@@ -33,7 +33,7 @@ struct Near {
     edits: usize,
 }
 
-/// The nearer to a word of what was found and of a name.
+/// Whichever is nearer to a word: what was found, or a name.
 fn nearer(
     alloc: Global,
     found: Option<Near>,
@@ -59,7 +59,7 @@ pub(crate) fn near_command(alloc: Global, word: &str) -> Result<Option<&'static 
     Ok(found.map(|near| near.name))
 }
 
-/// The option of a command whose name is near to that of a word.
+/// The option of a command whose name is near to a word's.
 pub(crate) fn near_option(
     alloc: Global,
     command: Command,

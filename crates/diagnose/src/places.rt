@@ -17,7 +17,7 @@ pub(crate) fn abi_name(register: u64) -> Option<&'static str> {
     NAMES.get((register as usize).checked_sub(14)?).copied()
 }
 
-/// Whether a file is an output, which has a section `.qed.map`.
+/// Whether a file is an output: it has a section `.qed.map`.
 pub(crate) fn is_output(file: &ElfFile) -> bool {
     file.sections.as_slice().iter().any(|section| section.name.as_slice() == b".qed.map".as_slice())
 }
@@ -57,7 +57,7 @@ pub(crate) fn word_at(file: &ElfFile, address: u64) -> Option<u32> {
     None
 }
 
-/// Appends an address by the nearest symbol of code below it, where there is one: `, NAME+0xN`.
+/// Appends an address by the nearest code symbol at or below it, if there is one: `, NAME+0xN`.
 fn push_symbol(
     alloc: Global,
     text: &mut String,
@@ -72,7 +72,7 @@ fn push_symbol(
     text.push_str(&format!(in alloc; ", {name}+0x{offset:x}")?)
 }
 
-/// Appends where an address of code is: its symbol, and the instruction that stands there.
+/// Appends where a code address is: its symbol, and the instruction there.
 pub(crate) fn push_place(
     alloc: Global,
     text: &mut String,
@@ -89,7 +89,7 @@ pub(crate) fn push_place(
     Ok(())
 }
 
-/// Appends which of the sections of a file is the largest.
+/// Appends the name of a file's largest section.
 pub(crate) fn push_largest(
     alloc: Global,
     text: &mut String,

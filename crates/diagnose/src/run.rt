@@ -1,4 +1,4 @@
-//! What is told of a run.
+//! The text on standard error about a run.
 ghost use Rattle.std.specs.Prelude.{◌≡◌};
 
 use crate::answers::{address_behind, read};
@@ -15,14 +15,14 @@ use rv_isa::{Class, Ins, Kind, Reg};
 use std::alloc::{AllocError, Global};
 use texts::digits;
 
-/// How many steps the line about a run tells.
+/// The number of steps in the line about a run.
 fn steps_of(line: &str) -> Option<u64> {
     let (_, rest) = line.split_once(" after ")?;
     let (steps, _) = rest.split_once(" ")?;
     digits(10, 20, steps.as_bytes())
 }
 
-/// Appends a warning where a change was not made, or where not all of its word is mapped.
+/// Appends a warning if a change was not made, or if its word is not mapped whole.
 fn push_warning(
     alloc: Global,
     text: &mut String,
@@ -45,7 +45,7 @@ fn push_warning(
     Ok(())
 }
 
-/// The instruction that stands so many bytes before an address.
+/// The instruction `bytes` bytes before an address.
 fn before(file: &ElfFile, address: u64, bytes: u64) -> Option<Ins> {
     decode(word_at(file, address.wrapping_sub(bytes))?)
 }
@@ -55,8 +55,8 @@ fn is_pair(number: u8) -> bool {
     number == 0 || (number > PAIR_DISTANCE && number <= PAIR_DISTANCE + LAST_ORIGINAL)
 }
 
-/// What the comparison in front of an EBREAK of an output has found where it fires: what `explain` says by the role of the word, by the
-/// words alone.
+/// What the comparison in front of an output's EBREAK found if it fires. `explain` finds this by
+/// the role of the word; here only the words are known.
 fn found_by_words(file: &ElfFile, ebreak: u64, one: Reg, other: Reg) -> Option<Found> {
     let nearest = before(file, ebreak, 8)?;
     match (one.number(), other.number()) {
@@ -70,21 +70,21 @@ fn found_by_words(file: &ElfFile, ebreak: u64, one: Reg, other: Reg) -> Option<F
             _ => Some(Found::Caller),
         },
         (TEMPORARY, SPARE) => match nearest.kind {
-            // The look-ups of the check begin with the signature, those of a jump with its target.
+            // A look-up of the check begins with the signature, one of a jump with its target.
             Kind::Lui if before(file, ebreak, 40)?.rs1.number() == SIGNATURE => Some(
                 Found::LookUps,
             ),
             Kind::Lui => Some(Found::Ways),
             _ => Some(Found::Word),
         },
-        // The base of a store, with its pair by way of x31.
+        // The base of a store, with its pair in x31.
         (base, SPARE) if base <= LAST_ORIGINAL => Some(Found::pair(one)),
         (one, other) => Some(Found::Differ(one, other)),
     }
 }
 
-/// What the check in front of an EBREAK has found where it fires; None where no check stands there. In a file that is not an output,
-/// each BEQ is a check.
+/// What the check in front of an EBREAK found if it fires; None if no check stands there. In a file
+/// that is not an output, each BEQ is a check.
 fn found(file: &ElfFile, ebreak: u64, check: &Ins) -> Option<Found> {
     let (one, other) = (check.rs1, check.rs2);
     if is_output(file) && is_pair(one.number()) && is_pair(other.number()) {
@@ -127,7 +127,7 @@ fn printed_value(printed: &str, number: u8) -> Option<u64> {
     None
 }
 
-/// What differed where a check fired, or that nothing did; empty if the text does not show the registers.
+/// What differed when a check fired, or that nothing did; empty if the text does not show the registers.
 fn fired(alloc: Global, file: &ElfFile, printed: &str) -> Result<String, AllocError> {
     let line = printed.lines().next().unwrap_or("");
     let ebreak = address_behind(line, " at 0x").unwrap_or(0);
@@ -148,7 +148,7 @@ fn fired(alloc: Global, file: &ElfFile, printed: &str) -> Result<String, AllocEr
     format!(in alloc; "qed: a check fired: {found}\n")
 }
 
-/// That the registers pass the check in front of an EBREAK that was reached.
+/// That the registers pass the check in front of an EBREAK that the run reached.
 fn passed(alloc: Global, kind: Kind, first: u8, second: u8) -> Result<String, AllocError> {
     if kind == Kind::Beq {
         return format!(in alloc;
@@ -160,7 +160,7 @@ fn passed(alloc: Global, kind: Kind, first: u8, second: u8) -> Result<String, Al
     )
 }
 
-/// What mends how a run ended, by the first two words of its line, and where it stands.
+/// What mends the end of a run, by the first two words of its line, and the place.
 fn ending(alloc: Global, file: &ElfFile, printed: &str) -> Result<String, AllocError> {
     let line = printed.lines().next().unwrap_or("");
     if line.starts_with("fired") {
@@ -180,8 +180,8 @@ fn ending(alloc: Global, file: &ElfFile, printed: &str) -> Result<String, AllocE
     Ok(text)
 }
 
-/// Where a check fired: what differed. Where a run trapped or did not end: why and what mends it, and the place. Then the faults that
-/// were not made.
+/// If a check fired: what differed. If a run trapped or did not end: why, what mends it, and the
+/// place. Then the changes that were not made.
 pub(crate) fn of_run<S: Shelf>(
     alloc: Global,
     asked: &Order,
@@ -201,7 +201,7 @@ pub(crate) fn of_run<S: Shelf>(
         return Ok(String::new(alloc));
     };
     let mut text = ending(alloc, &file, printed)?;
-    // A run that goes on has made the changes behind its last step too.
+    // A run that goes on has also made the changes behind its last step.
     let made = steps.saturating_add(u64::from(line.starts_with("going")));
     for change in changes.as_slice() {
         push_warning(alloc, &mut text, &file, made, *change)?;

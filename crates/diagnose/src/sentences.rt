@@ -1,7 +1,7 @@
 //! What is wrong and what mends it, in a sentence.
 
-/// Lines `KEY = SENTENCE`. A key is how a printed line goes on behind its first word; one with a colon is of one kind of
-/// a rule.
+/// Lines `KEY = SENTENCE`. A key is the rest of a printed line behind its first word; with a colon
+/// it is for one kind of a rule.
 const SENTENCES: &str = "no command = a command is missing
 unknown command = this is no command
 empty word = this word is empty

@@ -1,4 +1,4 @@
-//! What the program tells on standard error.
+//! What the program prints on standard error.
 
 use crate::answers::{EndedCall, advice, path, push_reason};
 use qed_io::{DirShelf, MemoryShelf};
@@ -35,7 +35,7 @@ fn unwritten(
     Ok(text)
 }
 
-/// Whether a word is the name of a pipe or a device, which may not be read once more.
+/// Whether a word names a pipe or a device, which must not be read again.
 fn has_pipe<R: Files>(rt: &R, words: &[String]) -> bool {
     for word in words {
         if let Ok(found) = fs::metadata(rt, word.as_str()) {
@@ -47,7 +47,7 @@ fn has_pipe<R: Files>(rt: &R, words: &[String]) -> bool {
     false
 }
 
-/// What is told of a call.
+/// The text about a call.
 fn told<R: Files + Alloc<A = Global>>(
     rt: &R,
     call: &EndedCall<'_>,
@@ -62,8 +62,8 @@ fn told<R: Files + Alloc<A = Global>>(
     advice(alloc, call, on_terminal, &mut files)
 }
 
-/// Tells on standard error why a call, which ended with this code, did not do what it is for, by what it printed and by the
-/// machine's reasons, of files and of standard output. That nothing can be told changes nothing.
+/// Prints on standard error why a call that ended with this code failed, by what it printed and the
+/// machine's reasons for files and standard output. If printing fails, nothing changes.
 pub fn complain<R: Files + Alloc<A = Global>, E: Eprint + IsTerminal>(
     rt: &R,
     err: &E,

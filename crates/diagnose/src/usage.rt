@@ -20,7 +20,7 @@ fn word_at(words: &[String], number: usize) -> Option<Word<'_>> {
     Some(Word { number, text })
 }
 
-/// The value that the word of this number gives an option.
+/// The value that the word of this number gives to an option.
 fn value_at<'a>(words: &'a [String], number: usize, name: &str) -> Option<Word<'a>> {
     let given = words.get(number)?.as_str().strip_prefix("--")?;
     if given == name {
@@ -30,7 +30,7 @@ fn value_at<'a>(words: &'a [String], number: usize, name: &str) -> Option<Word<'
     (front == name).then_some(Word { number, text })
 }
 
-/// The word with the value of an option that is at fault.
+/// The word with the wrong value of an option.
 fn wrong_value<'a>(words: &'a [String], name: &str) -> Option<Word<'a>> {
     let mut values = (0..words.len()).filter_map(|place| value_at(words, place, name));
     values.find(|word| name != "fault" || fault(word.text.as_bytes()).is_none())
@@ -44,7 +44,7 @@ fn parts(reason: &str) -> (&str, &str) {
     }
 }
 
-/// The word that is at fault.
+/// The faulty word.
 fn at_fault<'a>(
     words: &'a [String],
     command: Option<Command>,
@@ -60,7 +60,7 @@ fn at_fault<'a>(
     }
 }
 
-/// The name that may be meant.
+/// The name that the user may have meant.
 fn meant(
     alloc: Global,
     command: Option<Command>,
@@ -74,7 +74,7 @@ fn meant(
     }
 }
 
-/// What is wrong, with the word at fault and its number.
+/// What is wrong, with the faulty word and its number.
 fn first_line(
     alloc: Global,
     head: &str,
@@ -92,7 +92,7 @@ fn first_line(
     }
 }
 
-/// How the command is called: the first line of its text, or the whole text where a word asks for help.
+/// How to call the command: the first line of its text, or the whole text if a word asks for help.
 fn synopsis(command: Option<Command>, word: Option<Word<'_>>) -> &'static str {
     let page = match command {
         None | Some(Command::Help | Command::Version) => return "qed help tells all commands",
@@ -104,12 +104,12 @@ fn synopsis(command: Option<Command>, word: Option<Word<'_>>) -> &'static str {
     }
 }
 
-/// Where the words ask for nothing: the word at fault with its number, why, the name that may be meant, the line about the
-/// option, and how the command is called.
+/// For words that ask for nothing: the faulty word with its number, why, the name that may be
+/// meant, the line about the option, and how to call the command.
 pub(crate) fn usage(alloc: Global, words: &[String], reason: &str) -> Result<String, AllocError> {
     let (head, tail) = parts(reason);
     let command = words.first().and_then(|word| Command::named(word.as_str()));
-    // The option that the reason is about, where it is about one.
+    // The option that the reason is about, if any.
     let option = match head {
         "all entries" => "entries",
         "few steps" => "every",

@@ -9,6 +9,6 @@ use Rattle.eddi_dup.specs.Laws.{any}
 abbrev pub some_load : Ins
 some_load = ins Ld 1 2 0 (pos 0)
 
--- without a comparison of its base it does not keep lockstep
+-- without a comparison of the load's base, lockstep is lost
 abbrev pub GuardsNeeded : Type 0
 GuardsNeeded = Lockstep any [] (bare some_load 0) → ⊥

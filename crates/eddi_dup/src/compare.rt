@@ -15,7 +15,7 @@ use std::alloc::AllocError;
 #[derive(Clone, Copy, Drop)]
 pub struct CompareAll;
 
-/// Where a register and its pair are equal, the check behind this is passed.
+/// If a register and its pair are equal, skips the check behind it.
 fn unequal(n: u8) -> Item
     requires { n ≤ LAST_ORIGINAL }
     ensures { result ≡ Item.Plain (ins_of Beq 0 n (n + PAIR_DISTANCE) (pos 8)) }

@@ -56,9 +56,9 @@ fn store_pair(ins: &Ins) -> [Item; 2]
     ]
 }
 
-/// Appends the same on the pairs, where an access goes to the duplicate half.
+/// Appends the instruction on the pairs; an access goes to the duplicate half.
 ///
-/// Errors: want of memory, and then the first of it is appended.
+/// Errors: want of memory; then a first part is appended.
 pub fn put_mirrored(ins: &Ins, at: u64, out: &mut Emit) -> Result<(), AllocError>
     requires { FitsPiece ins.now }
     ensures all { OnOk result (out.new ≡ out.old ++ mirrored ins.now at) }

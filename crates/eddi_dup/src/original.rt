@@ -6,7 +6,7 @@ use qed_model::Item;
 use rv_isa::{Ins, Kind};
 use std::alloc::AllocError;
 
-/// The instruction itself; of AUIPC its value. What it uses is to be compared before.
+/// The instruction itself; for AUIPC its value. What it uses must be compared before.
 #[derive(Clone, Copy, Drop)]
 pub struct Original;
 

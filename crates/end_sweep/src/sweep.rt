@@ -54,7 +54,7 @@ fn put_sweep(spans: &[Range], out: &mut Emit) -> Result<(), AllocError>
 
 /// Appends the comparisons of the data words of all ranges, and of all registers.
 ///
-/// Errors: want of memory, and then the first of them are appended.
+/// Errors: want of memory; then a first part is appended.
 #[tactic(auto, using(passes::specs::Emitted::part_first, passes::specs::Emitted::part_second))]
 pub fn put_checks(spans: &[Range], out: &mut Emit) -> Result<(), AllocError>
     ensures all { OnOk result (out.new ≡ out.old ++ (sweep (spans_of spans.now) ++ compare)) }

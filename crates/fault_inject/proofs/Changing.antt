@@ -1,4 +1,4 @@
--- Runs with changes: plain steps between two changes, one change more, and changes that come later.
+-- Runs with changes: plain steps between two changes, one more change, and changes that come later.
 use Rattle.std.proofs.Common.{◌≡◌, ℕ, zero, suc, ◌+◌, ◌-◌, ◌<◌, ◌≤◌, false, cond, List, [], ◌∷◌, ◌++◌, length, get_or, drop, take, drop-cons, add-one, refl, sym, ap, ◌∙◌, subst, arith}
 use Rattle.std.proofs.Math.Seq.{take-suc}
 use Rattle.std.proofs.lemmas.List.{take-append-drop, drop_all}
@@ -16,7 +16,7 @@ use Rattle.fault_inject.specs.Counted.{changed_steps, IsPartOf}
 use Rattle.rv_step.specs.Known.{IsPart}
 use Rattle.rv_step.proofs.Running.{progress_last, progress_more}
 
--- what holds anyway holds of an Err
+-- what always holds also holds of an Err
 pub any_err : {T E : Type 0} (r : Result T E) (P : Type 0) → P → IfErr r (λ _. P)
 any_err (Ok x) P p = tt
 any_err (Err e) P p = p
@@ -35,18 +35,18 @@ part_further p q r a b n there part within =
 abbrev pub changed_progress : Progress → List Change → ℕ → Progress
 changed_progress m cs n = record { state = changed_run m.state cs n; steps = changed_steps m cs n }
 
--- each change is made after t steps at the earliest
+-- each change is made after t steps or later
 abbrev pub AllFrom : ℕ → List Change → Type 0
 AllFrom t cs = Every (λ c. t ≤ c.step) cs
 
--- ---- the changes of one step
--- none is made where each comes later
+-- ---- the changes at one step
+-- no change is made if each comes later
 none_yet : (n t : ℕ) (cs : List Change) (s : State) → AllFrom t cs → n < t → with_changes cs n s ≡ s
 unfolding with_changes
 none_yet n t [] s from h = refl
 none_yet n t (c ∷ cs) s from h = let e : (c.step == n) ≡ false = ne_eqb c.step n (λ x. absurd (omega (arith, x, from.0))) in ap (λ b. with_changes cs n (cond b (changed c s) s)) e ∙ none_yet n t cs s from.1 h
 
--- those of a list, and then those of another
+-- the changes of one list, then those of another
 with_changes-append : (cs ds : List Change) (n : ℕ) (s : State) → with_changes (cs ++ ds) n s ≡ with_changes ds n (with_changes cs n s)
 unfolding with_changes
 with_changes-append [] ds n s = refl
@@ -82,7 +82,7 @@ not_made m cs ds n from =
     let steps = later_steps m cs ds (n + 1) n from (omega arith) in
     ap (λ x. record { state = x; steps = changed_steps m (cs ++ ds) n }) state ∙ ap (λ k. record { state = changed_run m.state cs n; steps = k }) steps
 
--- ---- one change more
+-- ---- one more change
 one_run : (s : State) (cs : List Change) (c : Change) (n : ℕ) → c.step ≡ n → changed_run s (cs ++ c ∷ []) n ≡ with_changes (c ∷ []) n (changed_run s cs n)
 unfolding changed_run
 one_run s cs c zero e = with_changes-append cs (c ∷ []) 0 s
@@ -97,7 +97,7 @@ pub counted_next : (m : Progress) (cs : List Change) (c : Change) → changed_st
 counted_next m cs c = later_steps m cs (c ∷ []) c.step c.step (omega arith, tt) (omega arith)
 
 -- ---- plain steps
--- where all changes were made
+-- a plain step, when all changes were made
 plain_step : (m : Progress) (cs : List Change) (t n : ℕ) → AllBy t cs → t ≤ n → changed_progress m cs (suc n) ≡ advanced (changed_progress m cs n)
 unfolding changed_run changed_steps advanced
 plain_step m cs t n by h = let s = step (changed_run m.state cs n) in ap (λ x. record { state = x; steps = changed_steps m cs (suc n) }) (none_left (suc n) t cs s by (omega arith))
@@ -111,13 +111,13 @@ plain m cs t (suc k) by =
     ap (changed_progress m cs) e ∙ plain_step m cs t (t + k) by (omega arith) ∙ ap advanced (plain m cs t k by) ∙ sym (progress_last (changed_progress m cs t) k)
 
 -- ---- on the way
--- a machine has made the first k changes of a list and so many steps, and the other changes come later
+-- a machine has made the first k changes of a list and `done` steps, and the other changes come later
 pub record Reached (m : Progress) (cs : List Change) (k done : ℕ) (p : Progress) : Type 0 where
   pub now : p ≡ changed_progress m (take k cs) done
   pub by : AllBy done (take k cs)
   pub from : AllFrom done (drop k cs)
 
--- none is made at the start
+-- all changes come at step 0 or later
 all_from_zero : (cs : List Change) → AllFrom 0 cs
 all_from_zero [] = tt
 all_from_zero (c ∷ cs) = (omega arith, all_from_zero cs)
@@ -133,7 +133,7 @@ ordered_drop [] (suc k) o = tt
 ordered_drop (c ∷ []) (suc k) o = ordered_drop [] k tt
 ordered_drop (c ∷ d ∷ cs) (suc k) o = ordered_drop (d ∷ cs) k o.1
 
--- they come later than the first
+-- if the first of ordered changes comes at t or later, so do all
 ordered_from : (t : ℕ) (c : Change) (cs : List Change) → t ≤ c.step → Ordered (c ∷ cs) → AllFrom t cs
 ordered_from t c [] h o = tt
 ordered_from t c (d ∷ cs) h o = (omega (arith, h, o.0), ordered_from t d cs (omega (arith, h, o.0)) o.1)
@@ -149,7 +149,7 @@ drop_at cs k c lt e = drop-cons cs k c lt ∙ ap (λ d. d ∷ drop (suc k) cs) (
 take_at : (cs : List Change) (k : ℕ) (c : Change) → k < length cs → c ≡ get_or cs k c → take (k + 1) cs ≡ take k cs ++ c ∷ []
 take_at cs k c lt e = rw add-one (take-suc cs k c lt) ∙ ap (λ d. take k cs ++ d ∷ []) (sym e)
 
--- those that are left come late where the next one does, or where none is left
+-- the changes left come late if the next one does, or if none is left
 pub left_before : (cs : List Change) (k last : ℕ) (c : Change) → Ordered cs → k < length cs → c ≡ get_or cs k c → last ≤ c.step → AllFrom last (drop k cs)
 left_before cs k last c o lt e late =
     let split = drop_at cs k c lt e in
@@ -158,7 +158,7 @@ left_before cs k last c o lt e late =
 pub left_none : (cs : List Change) (k last : ℕ) → length cs ≤ k → AllFrom last (drop k cs)
 left_none cs k last all = subst (AllFrom last) (sym (drop_all k cs all)) tt
 
--- it does not come before what was made
+-- the next change does not come before the steps made
 pub next_later : (m : Progress) (cs : List Change) (k done : ℕ) (p : Progress) (c : Change) → k < length cs → c ≡ get_or cs k c → Reached m cs k done p → done ≤ c.step
 next_later m cs k done p c lt e r = (subst (AllFrom done) (drop_at cs k c lt e) r.from).0
 
@@ -168,7 +168,7 @@ runs_on m cs k done n p r h =
     let sum : done + (n - done) ≡ n = omega arith in
     ap (λ q. progress q (n - done)) r.now ∙ sym (plain m (take k cs) done (n - done) r.by) ∙ ap (changed_progress m (take k cs)) sum
 
--- after the next change
+-- the machine after the next change
 pub reached_next :
     (m : Progress) (cs : List Change) (k done : ℕ) (p q : Progress) (c : Change) → Ordered cs → k < length cs → c ≡ get_or cs k c → Reached m cs k done p
     → q.state ≡ changed c (progress p (c.step - done)).state → q.steps ≡ (progress p (c.step - done)).steps → Reached m cs (k + 1) c.step q
@@ -185,7 +185,7 @@ reached_next m cs k done p q c o lt e r state steps =
       from = ordered_from c.step c (drop (k + 1) cs) (omega arith) (subst Ordered (drop_at cs k c lt e) (ordered_drop cs k o));
     }
 
--- at the end, where the other changes come too late
+-- the end of the run, when the other changes come too late
 pub ends : (m : Progress) (cs : List Change) (k done n : ℕ) (p : Progress) → Reached m cs k done p → done ≤ n → AllFrom (n + 1) (drop k cs) → progress p (n - done) ≡ changed_progress m cs n
 ends m cs k done n p r h late = runs_on m cs k done n p r h ∙ sym (not_made m (take k cs) (drop k cs) n late) ∙ ap (λ ds. changed_progress m ds n) (take-append-drop k cs)
 
@@ -202,7 +202,7 @@ pub from_less : (t u : ℕ) (cs : List Change) → u ≤ t → AllFrom t cs → 
 from_less t u [] l h = tt
 from_less t u (c ∷ cs) l h = (omega (arith, l, h.0), from_less t u cs l h.1)
 
--- some plain steps more
+-- some more plain steps
 pub part_made :
     (m : Progress) (cs : List Change) (k done n j last : ℕ) (p q : Progress) → Reached m cs k done p → done + j ≤ n → done + j ≤ last → AllFrom last (drop k cs) → q ≡ progress p j
     → IsPartOf m cs n q

@@ -6,28 +6,28 @@ use Rattle.machine.specs.Step.{Fetched, Refused, Unknown, Known, Ins, class_of}
 use Rattle.qed_model.specs.Promise.Closed.{uses, uses_as, guards_other, is_checked}
 use Rattle.rv_step.specs.Known.{instruction_of}
 
--- no instruction uses a register where there is none
+-- without an instruction no register is used
 pub unused : (f : Fetched) (r : ℕ) → None ≡ instruction_of f → false ≡ uses r f
 unfolding uses
 unused Refused r h = refl
 unused (Unknown w) r h = refl
 unused (Known i) r h = absurd (cc)
 
--- what an instruction uses
+-- the registers that an instruction uses
 pub used : (f : Fetched) (r : ℕ) (i : Ins) → Some i ≡ instruction_of f → uses_as (class_of i.kind) r i ≡ uses r f
 unfolding uses
 used Refused r i h = absurd (cc)
 used (Unknown w) r i h = absurd (cc)
 used (Known j) r i h = let e : i ≡ j = cc in ap (λ k. uses_as (class_of k.kind) r k) e
 
--- nothing is guarded where there is no instruction
+-- without an instruction no register is guarded
 pub unguarded : (f : Fetched) (r : ℕ) → None ≡ instruction_of f → false ≡ guards_other r f
 unfolding guards_other
 unguarded Refused r h = refl
 unguarded (Unknown w) r h = refl
 unguarded (Known i) r h = absurd (cc)
 
--- what was fetched, where an instruction was
+-- what was fetched, given the instruction
 pub known : (f : Fetched) (i : Ins) → Some i ≡ instruction_of f → Known i ≡ f
 known Refused i h = absurd (cc)
 known (Unknown w) i h = absurd (cc)
@@ -37,7 +37,7 @@ known (Known j) i h = let e : i ≡ j = cc in ap Known e
 abbrev pub closes : ℕ → Fetched → Fetched → Fetched → Bool
 closes r f n g = (nat_le 1 r && nat_le r LAST_ORIGINAL) && ((uses r f && not (is_checked f n)) || (guards_other r f && uses r g))
 
--- the same by four tests, for x1 to x13
+-- whether a register is closed, by four tests, for x1 to x13
 pub closes_by :
     (r : ℕ) (f n g : Fetched) (x t y z : Bool) → 1 ≤ r → r ≤ LAST_ORIGINAL → x ≡ uses r f → t ≡ is_checked f n → y ≡ guards_other r f → z ≡ uses r g
     → ((x && not t) || (y && z)) ≡ closes r f n g

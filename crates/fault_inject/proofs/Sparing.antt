@@ -1,4 +1,4 @@
--- A step that touches no byte of a word does the same where that word was changed, and leaves the change.
+-- A step that touches no byte of a word does the same if that word was changed, and leaves the change.
 use Rattle.std.proofs.Common.{◌≡◌, ◌⊎◌, inl, inr, ℕ, zero, suc, ◌+◌, ◌%◌, ◌^◌, ◌<◌, ◌≤◌, Bool, true, false, cond, List, refl, sym, ap, ◌∙◌, arith}
 use Rattle.std.proofs.lemmas.Bool.{cases_lt}
 use Rattle.std.specs.Prelude.{◌==◌, nat_lt}
@@ -17,7 +17,7 @@ use Rattle.rv_step.specs.Known.{instruction_of}
 use Rattle.fault_inject.specs.Touched.{touched_as, touched_by, IsFar, IsSpared, Going, Ended, Fired, Trapped}
 
 -- ---- memory
--- two writes of which none is at the cell of the other, in either order
+-- two writes, neither at the cell of the other, in either order
 swapped :
     (m : Memory) (a x p w v q : ℕ) → (8 ≤ offset a q) ⊎ (w ≤ offset p q)
     → get (put (put m a 8 x) p w v) q ≡ get (put (put m p w v) a 8 x) q
@@ -29,7 +29,7 @@ swapped m a x p w v q (inr far) =
     ∙ ap (option_map (λ c. with_byte (cond (nat_lt (offset a q) 8) (byte_of x (offset a q)) c.byte) c)) (sym (get-put_outside m p w v q far))
     ∙ sym (get-put (put m p w v) a 8 x q)
 
--- a byte that is written is none of the word's
+-- a byte that is written is not one of the word's
 apart_at : (a p w q : ℕ) → a < 2 ^ 64 → p < 2 ^ 64 → Apart a 8 p w → (offset p q < w) ⊎ (w ≤ offset p q) → (8 ≤ offset a q) ⊎ (w ≤ offset p q)
 apart_at a p w q ha hp apart (inr far) = inr far
 apart_at a p w q ha hp apart (inl here) =
@@ -95,7 +95,7 @@ spared_act a x Refused s ha far = refl
 spared_act a x (Unknown w) s ha far = refl
 spared_act a x (Known i) s ha far = spared_execute a x (class_of i.kind) i s ha far
 
--- the same word is fetched
+-- the instruction fetched does not depend on the word
 spared_next : (a x : ℕ) (s : State) → IsFar a s.pc 4 → next (with_word a x s) ≡ next s
 unfolding fetched_at
 spared_next a x s far = rw (grants-put (λ f. f.execute) s.memory a 8 x s.pc 4, number-put_apart s.memory a 8 x s.pc 4 far) refl

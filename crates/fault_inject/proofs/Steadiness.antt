@@ -1,4 +1,4 @@
--- Where a run does not trap and no jump leads astray in it, it is steady: each jump by register leads to an address that is reached.
+-- A run that does not trap, and in which no indirect jump leads astray, is steady.
 use Rattle.std.proofs.Common.{◌≡◌, ℕ, suc, ◌+◌, ◌%◌, ◌≤◌, Bool, true, false, cond, ◌&&◌, Option, Some, None, List, [], refl, sym, ap, ◌∙◌, subst, arith}
 use Rattle.std.specs.Prelude.{◌==◌, not}
 use Rattle.std.specs.Option.{option_map}
@@ -13,8 +13,8 @@ use Rattle.qed_model.proofs.Lemmas.{run_unchanged}
 use Rattle.weave_core.proofs.Lemmas.{not_trapped_le}
 use Rattle.fault_inject.specs.Astray.{is_jalr, is_astray, jump_of, first_jump, first_astray, instruction_of, known_at, goes_on, changed_run}
 
--- ---- jumps by register
--- one that does not trap goes on
+-- ---- indirect jumps
+-- a jump that does not trap goes on
 either : (b : Bool) (s t : State) → s.outcome ≡ Going → is_trapped t.outcome ≡ true → NotTrapped (cond b s t) → goes_on (cond b s t).outcome ≡ true
 either true s t going stop calm = ap goes_on going
 either false s t going stop calm = absurd (cc)
@@ -29,7 +29,7 @@ jalr_on s i going at jumps calm =
     let is = step-class s i class.JumpReg going at jumps in
     subst (λ t. goes_on t.outcome ≡ true) (sym is) (jumped_on _ _ s going (subst NotTrapped is calm))
 
--- where it is not astray, its target is reached
+-- a jump that is not astray has a reached target
 third : (a b c : Bool) → a ≡ true → b ≡ true → (a && (b && not c)) ≡ false → c ≡ true
 third true true true p q h = refl
 third true true false p q h = absurd (cc)

@@ -1,4 +1,4 @@
--- The first jump astray: in more states, in others that are equal, on the way of a changed run, and where the machine has stopped.
+-- The first jump astray: in more states, in equal ones, on the way of a changed run, and of a stopped machine.
 use Rattle.std.proofs.Common.{◌≡◌, ℕ, zero, suc, ◌+◌, ◌-◌, ◌<◌, ◌≤◌, Bool, true, false, cond, ◌&&◌, Option, Some, None, List, take, drop, refl, sym, ap, ◌∙◌, arith}
 use Rattle.std.proofs.Math.Bool.{and-false}
 use Rattle.std.proofs.lemmas.List.{take-append-drop}
@@ -14,7 +14,7 @@ use Rattle.fault_inject.specs.Astray.{is_jalr, is_astray, jump_of, astray_of, fi
 use Rattle.fault_inject.proofs.Changing.{AllFrom, Reached, changed_progress, later_run, plain}
 
 -- ---- the first of some states
--- of the n states from the k-th on
+-- the first of the n states from the k-th on
 abbrev from : (ℕ → Bool) → (ℕ → State) → ℕ → ℕ → Option (ℕ × ℕ)
 from r f k n = option_map (λ j. jump_of (f j)) (first_from (λ j. is_astray r (f j)) k n)
 
@@ -30,7 +30,7 @@ or_assoc : {A : Type 0} (x y z : Option A) → option_or x (option_or y z) ≡ o
 or_assoc None y z = refl
 or_assoc (Some a) y z = refl
 
--- it is the k-th, or one behind it
+-- the first is the k-th, or one behind it
 from_next : (r : ℕ → Bool) (f : ℕ → State) (k n : ℕ) → from r f k (suc n) ≡ option_or (astray_of r (f k)) (from r f (k + 1) n)
 from_next r f k n = or_first (λ j. jump_of (f j)) (is_astray r (f k)) k (first_from (λ j. is_astray r (f j)) (k + 1) n)
 
@@ -52,26 +52,26 @@ from_more r f k (suc a) b =
     ap (from r f k) more ∙ from_next r f k (a + b) ∙ ap (option_or (astray_of r (f k))) (from_more r f (k + 1) a b) ∙ or_assoc (astray_of r (f k)) (from r f (k + 1) a) (from r f (k + 1 + a) b)
     ∙ ap (λ o. option_or o (from r f (k + 1 + a) b)) (sym (from_next r f k a)) ∙ ap (λ i. option_or (from r f k (suc a)) (from r f i b)) there
 
--- counted from a later one
+-- the first, counted from a later state
 from_later : (r : ℕ → Bool) (f : ℕ → State) (a k n : ℕ) → from r f (a + k) n ≡ from r (λ j. f (a + j)) k n
 from_later r f a k zero = refl
 from_later r f a k (suc n) =
     let next : a + k + 1 ≡ a + (k + 1) = omega arith in
     from_next r f (a + k) n ∙ ap (λ i. option_or (astray_of r (f (a + k))) (from r f i n)) next ∙ ap (option_or (astray_of r (f (a + k)))) (from_later r f a (k + 1) n) ∙ sym (from_next r (λ j. f (a + j)) k n)
 
--- in equal states
+-- the first, in equal states
 first_same : (r : ℕ → Bool) (f g : ℕ → State) (n : ℕ) → ((j : ℕ) → j < n → f j ≡ g j) → first_jump r f n ≡ first_jump r g n
 unfolding first first_jump
 first_same r f g n same = from_same r f g 0 n (λ j le lt. same j (omega (arith, lt)))
 
--- in a states, or in b more
+-- the first, in a states and then in b more
 first_more : (r : ℕ → Bool) (f : ℕ → State) (a b : ℕ) → first_jump r f (a + b) ≡ option_or (first_jump r f a) (first_jump r (λ j. f (a + j)) b)
 unfolding first first_jump
 first_more r f a b =
     let front : 0 + a ≡ a + 0 = omega arith in
     from_more r f 0 a b ∙ ap (λ i. option_or (from r f 0 a) (from r f i b)) front ∙ ap (option_or (from r f 0 a)) (from_later r f a 0 b)
 
--- in no state, and in one more
+-- the first, in no state and in one more
 pub in_none : (r : ℕ → Bool) (f : ℕ → State) → first_jump r f 0 ≡ None
 unfolding first first_jump
 in_none r f = refl
@@ -86,19 +86,19 @@ in_next r f n =
     sym (first_more r f n 1 ∙ ap (option_or (first_jump r f n)) (in_one r (λ j. f (n + j)) ∙ ap (λ i. astray_of r (f i)) here))
 
 -- ---- plain steps
--- the state after each number of them
+-- the state after each number of plain steps
 abbrev pub states : Progress → ℕ → State
 states p k = (progress p k).state
 
 pub made_next : (p q next : Progress) (n : ℕ) → q ≡ progress p n → next ≡ advanced q → next ≡ progress p (n + 1)
 made_next p q next n at is = let more : suc n ≡ n + 1 = omega arith in is ∙ ap advanced at ∙ sym (progress_last p n) ∙ ap (progress p) more
 
--- and of what is found
+-- one more step, and what is found by then
 pub step_next : (r : ℕ → Bool) (p q : Progress) (n : ℕ) (found more : Option (ℕ × ℕ)) → q ≡ progress p n → found ≡ first_jump r (states p) n → more ≡ astray_of r q.state → option_or found more ≡ first_jump r (states p) (n + 1)
 step_next r p q n found more at so_far here =
     ap (λ o. option_or o more) so_far ∙ ap (option_or (first_jump r (states p) n)) (here ∙ ap (λ x. astray_of r x.state) at) ∙ in_next r (states p) n
 
--- so it does not jump
+-- a stopped state does not jump
 never_stopped : (r : ℕ → Bool) (s : State) → goes_on s.outcome ≡ false → is_astray r s ≡ false
 unfolding is_astray
 never_stopped r s h = ap (λ b. is_jalr (known_at s s.pc) && (b && not (r (step s).pc))) (ap (λ t. goes_on t.outcome) (stays_step s h) ∙ h) ∙ and-false (is_jalr (known_at s s.pc))
@@ -114,7 +114,7 @@ stays_on p q a j at stop = progress_more p a j ∙ ap (λ x. progress x j) (sym 
 pub stopped_all : (p q : Progress) (a n : ℕ) → a ≤ n → q ≡ progress p a → goes_on q.state.outcome ≡ false → q ≡ progress p n
 stopped_all p q a n h at stop = let sum : a + (n - a) ≡ n = omega arith in sym (stays_on p q a (n - a) at stop) ∙ ap (progress p) sum
 
--- and find no more
+-- more steps of a stopped machine find no more
 pub stopped_first :
     (r : ℕ → Bool) (p q : Progress) (a n : ℕ) (found : Option (ℕ × ℕ)) → a ≤ n → q ≡ progress p a → goes_on q.state.outcome ≡ false → found ≡ first_jump r (states p) a → found ≡ first_jump r (states p) n
 stopped_first r p q a n found h at stop so_far =
@@ -129,7 +129,7 @@ states_on m cs k done last j p h from lt =
     let here : progress p j ≡ changed_progress m (take k cs) (done + j) = ap (λ q. progress q j) h.now ∙ sym (plain m (take k cs) done j h.by) in
     ap (λ q. q.state) here ∙ sym (later_run m.state (take k cs) (drop k cs) last (done + j) from lt) ∙ ap (λ ds. changed_run m.state ds (done + j)) (take-append-drop k cs)
 
--- what was found before, or else what these steps find
+-- the first jump was found before, or else is found by these steps
 pub astray_on :
     (r : ℕ → Bool) (m : Progress) (cs : List Change) (k done last : ℕ) (p : Progress) (found more : Option (ℕ × ℕ)) → Reached m cs k done p → done ≤ last → AllFrom last (drop k cs)
     → found ≡ first_astray r m.state cs done → more ≡ first_jump r (states p) (last - done) → option_or found more ≡ first_astray r m.state cs last

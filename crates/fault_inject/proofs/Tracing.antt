@@ -1,4 +1,4 @@
--- What the steps of a run touch: one step more, and steps that touch no byte of a word.
+-- What the steps of a run touch: one more step, and steps that touch no byte of a word.
 use Rattle.std.proofs.Common.{◌≡◌, ◌⊎◌, inl, inr, ℕ, zero, suc, ◌+◌, ◌<◌, ◌≤◌, [], ◌∷◌, ◌++◌, length, get_or, sym, ap, ◌∙◌, subst, arith, below_more}
 use Rattle.std.proofs.lemmas.Bool.{cases_lt}
 use Rattle.std.proofs.Math.Seq.{get_or-append_seam}
@@ -25,7 +25,7 @@ each_at zero f k d l = absurd (omega arith)
 each_at (suc n) f k d l = last_each n f k d (λ x. each_at n f k d x) (omega (arith, l)) (cases_lt k n)
 
 -- ---- a trace
--- of no step
+-- a trace of no step
 pub trace_none : (s : State) (t : Trace) → t.places.items ≡ [] → IsTrace s t
 trace_none s t e =
     let none : length t.places.items ≡ 0 = ap length e in
@@ -36,7 +36,7 @@ trace_none s t e =
       high = λ k l. absurd (omega (arith, none, l));
     }
 
--- of one more
+-- a trace of one more step
 pub longer : (before after : Trace) (u : State) (n : ℕ) → length before.places.items ≡ n → IsLonger before u after → length after.places.items ≡ n + 1
 longer before after u n count l = ap length l.places ∙ omega (arith, length-append before.places.items (touched u ∷ []), count)
 
@@ -61,14 +61,14 @@ unfolding advanced
 steps_on s p q n here ran = ap (λ m. m.state) ran ∙ ap step here ∙ sym (run-last s n)
 
 -- ---- steps that touch no byte of a word
--- so many so far
+-- the first n of these steps touch no byte of the word
 abbrev pub AreFar : Trace → ℕ → ℕ → ℕ → Type 0
 AreFar t a from n = (s : State) → IsTrace s t → (k : ℕ) → k < n → IsFar a (touched (run s (from + k))) 8
 
 pub none_far : (t : Trace) (a from : ℕ) → AreFar t a from 0
 none_far t a from s is k l = absurd (omega (arith, l))
 
--- one more
+-- one more step touches no byte of the word
 pub more_far :
     (t : Trace) (a from n i p : ℕ) → AreFar t a from n → i ≡ from + n → i < length t.places.items → p ≡ get_or t.places.items i p → IsFar a p 8
     → AreFar t a from (n + 1)

@@ -1,4 +1,4 @@
--- Jumps by register that lead astray: to an address that is in none of a set.
+-- Indirect jumps that lead astray: to an address outside a set.
 use Rattle.std.specs.Prelude.{ℕ, Bool, false, ◌&&◌, not, List, Option, None, Some, if◌then◌else◌}
 use Rattle.std.specs.Option.{option_map}
 use Rattle.qed_model.specs.declared.change.Change.{Change}
@@ -8,25 +8,25 @@ use Rattle.machine.specs.Step.{State, step, Ins, class_of}
 pub use Rattle.qed_model.specs.Promise.Changed.{changed_run}
 pub use Rattle.rv_step.specs.Known.{known_at, goes_on, instruction_of}
 
--- the instruction, where there is one, is a JALR
+-- the instruction, if there is one, is a JALR
 abbrev pub is_jalr : Option Ins → Bool
 is_jalr None = false
 is_jalr (Some i) = is_indirect (class_of i.kind)
 
--- the next step is a JALR, and the state goes on behind it, at an address that is not reached; a state that has stopped does
--- not, nor does one whose JALR leads to no multiple of 4
+-- the next step is a JALR, and the state goes on behind it, at an address that is not reached; false if the state has
+-- stopped, or if the target is not a multiple of 4
 unfoldable pub is_astray : (ℕ → Bool) → State → Bool
 is_astray reached s = is_jalr (known_at s s.pc) && (goes_on (step s).outcome && not (reached (step s).pc))
 
--- the address of the next instruction, and the one to which its step leads
+-- the address of the next instruction, and the address that its step leads to
 abbrev pub jump_of : State → ℕ × ℕ
 jump_of s = (s.pc, (step s).pc)
 
--- the jump of a state, where it leads astray
+-- the jump of a state, if it leads astray
 abbrev pub astray_of : (ℕ → Bool) → State → Option (ℕ × ℕ)
 astray_of reached s = if is_astray reached s then Some (jump_of s) else None
 
--- the first jump that leads astray, of those of n states
+-- the first jump that leads astray, among those of n states
 unfoldable pub first_jump : (ℕ → Bool) → (ℕ → State) → ℕ → Option (ℕ × ℕ)
 first_jump reached states n = option_map (λ k. jump_of (states k)) (first n (λ k. is_astray reached (states k)))
 

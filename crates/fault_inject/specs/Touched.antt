@@ -1,4 +1,4 @@
--- What steps touch in memory, and those that touch no byte of a word.
+-- What steps touch in memory, and steps that touch no byte of a word.
 use Rattle.std.specs.Prelude.{◌≡◌, ℕ, ◌+◌, ◌<◌, ◌≤◌, [], ◌∷◌, ◌++◌, length, Option, None, Some}
 use Rattle.rv_isa.specs.declared.class.Class.TheVariants as class
 use Rattle.machine.specs.Below.{each}
@@ -8,7 +8,7 @@ pub use Rattle.machine.specs.Step.{State, place, run, Class, Ins, class_of, step
 use Rattle.rv_step.specs.Known.{known_at}
 use Rattle.fault_inject.specs.declared.trace.Trace.{Trace}
 
--- the address that an instruction of a class loads from or stores to; 0 where it does neither
+-- the address that an instruction of a class loads from or stores to; 0 if it does neither
 abbrev pub touched_as : Class → Ins → State → ℕ
 touched_as class.Load i s = place i s
 touched_as class.Store i s = place i s
@@ -18,7 +18,7 @@ abbrev pub touched_by : Option Ins → State → ℕ
 touched_by None s = 0
 touched_by (Some i) s = touched_as (class_of i.kind) i s
 
--- the one of the next step
+-- the address that the next step loads from or stores to; 0 if it does neither
 abbrev pub touched : State → ℕ
 touched s = touched_by (known_at s s.pc) s
 
@@ -31,20 +31,20 @@ pub record IsSpared (a : ℕ) (s : State) : Type 0 where
   pub fetched : IsFar a s.pc 4
   pub touched : IsFar a (touched s) 8
 
--- what the first steps of a run touch, each made from a state that goes on, and between which addresses they are fetched
+-- what the first steps of a run touch, and between which addresses they are fetched; each from a state that goes on
 pub record IsTrace (s : State) (t : Trace) : Type 0 where
   pub places : t.places.items ≡ each (length t.places.items) (λ k. touched (run s k))
   pub going : (k : ℕ) → k < length t.places.items → (run s k).outcome ≡ Going
   pub low : (k : ℕ) → k < length t.places.items → t.low ≤ (run s k).pc
   pub high : (k : ℕ) → k < length t.places.items → (run s k).pc ≤ t.high
 
--- a trace has one step more, which is made from this state
+-- a trace longer by one step, made from this state
 pub record IsLonger (before : Trace) (s : State) (after : Trace) : Type 0 where
   pub places : after.places.items ≡ before.places.items ++ touched s ∷ []
   pub low : (after.low ≤ before.low) × (after.low ≤ s.pc)
   pub high : (before.high ≤ after.high) × (s.pc ≤ after.high)
 
--- of the steps of a run behind the first `from`, the next n touch no byte of a word
+-- behind the first `from` steps of a run, the next n touch no byte of a word
 pub record AreSpared (a from n : ℕ) (s : State) : Type 0 where
   pub going : (k : ℕ) → k < n → (run s (from + k)).outcome ≡ Going
   pub spared : (k : ℕ) → k < n → IsSpared a (run s (from + k))

@@ -1,5 +1,5 @@
-//! Bugs and strikes, made in runs: registers and words of a machine are changed while it goes on, and it is told where a
-//! register is closed, and where a jump by register leads astray.
+//! Bugs and strikes in runs: they change registers and words of a machine while it runs. It also
+//! finds closed registers, and indirect jumps that lead astray.
 #![tactic(auto)]
 
 mod places;

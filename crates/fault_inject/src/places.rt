@@ -12,8 +12,8 @@ use rv_isa::profile::{LAST_ORIGINAL, PAIR_DISTANCE, TEMPORARY};
 use rv_isa::{Class, Ins, Kind, Reg};
 use rv_step::Machine;
 
-/// Whether an instruction uses a register: as the base of an access, as a stored value, in a branch on x0 to x13, or where ADDI
-/// takes it into x30.
+/// Whether an instruction uses a register: as the base of an access, as a stored value, in a branch
+/// on x0 to x13, or as the source of an ADDI into x30.
 fn uses(ins: &Ins, r: Reg) -> bool
     ensures { result ≡ uses_as (class_of ins.now.kind) r ins.now }
 {
@@ -30,8 +30,8 @@ fn uses(ins: &Ins, r: Reg) -> bool
     }
 }
 
-/// Whether an instruction compares another of x1 to x13 with its pair: BEQ skips the next word where they are equal, BNE goes
-/// elsewhere where they differ.
+/// Whether an instruction compares another of x1 to x13 with its pair: BEQ skips the next word if
+/// they are equal, BNE goes elsewhere if they differ.
 #[tactic(auto, unfolding(qed_model::specs::Promise::Closed::guards_other))]
 fn guards_another(ins: &Ins, r: Reg) -> bool
     ensures { result ≡ guards_other r (Known ins.now) }
@@ -44,7 +44,7 @@ fn guards_another(ins: &Ins, r: Reg) -> bool
         && other <= LAST_ORIGINAL
 }
 
-/// How many bytes behind its begin a guard ends that finds no difference.
+/// How many bytes a guard that finds no difference takes.
 fn guard_length(ins: &Ins) -> u64
     ensures { result ≡ guard_bytes (Known ins.now) }
 {
@@ -62,7 +62,7 @@ fn pair_number(r: Reg) -> u8
     }
 }
 
-/// Whether an instruction is a branch on the pairs of the registers of another.
+/// Whether an instruction is a branch on the pairs of another's registers.
 fn is_on_pairs(ins: &Ins, other: &Ins) -> bool
     ensures { result ≡ on_pairs other.now (Known ins.now) }
 {
@@ -71,7 +71,7 @@ fn is_on_pairs(ins: &Ins, other: &Ins) -> bool
         && ins.rs2.number() == pair_number(other.rs2)
 }
 
-/// Whether an instruction is a branch that the one behind it, where there is one, checks.
+/// Whether an instruction is a branch that the next instruction checks.
 #[tactic(auto, unfolding(qed_model::specs::Promise::Closed::is_checked))]
 fn is_checked_by(ins: &Ins, behind: Option<Ins>) -> bool
     ensures { (f : Fetched) → behind ≡ instruction_of f → result ≡ is_checked (Known ins.now) f }
@@ -82,7 +82,7 @@ fn is_checked_by(ins: &Ins, behind: Option<Ins>) -> bool
     }
 }
 
-/// Whether an instruction, where there is one, uses a register.
+/// Whether an instruction, if there is one, uses a register.
 fn is_used_by(ins: Option<Ins>, r: Reg) -> bool
     ensures { (f : Fetched) → ins ≡ instruction_of f → result ≡ uses_register r f }
 {
@@ -92,15 +92,15 @@ fn is_used_by(ins: Option<Ins>, r: Reg) -> bool
     }
 }
 
-/// Whether a use closes a register, which a word behind may check, or a use behind a guard does.
+/// Whether a register is closed: used without a check behind, or used behind the guard of another.
 fn closes(used: bool, checked: bool, guarded: bool, used_behind: bool) -> bool
     ensures { result ≡ ((used && not checked) || (guarded && used_behind)) }
 {
     used && !checked || guarded && used_behind
 }
 
-/// Whether a register is closed: it is one of x1 to x13, and used next, but by no branch that is checked behind it, or used behind
-/// the guard of another that is next.
+/// Whether a register is closed: it is one of x1 to x13, and the next instruction uses it without a
+/// check behind, or guards another and the use comes behind that guard.
 fn register_closed(machine: &Machine, r: Reg) -> bool
     ensures { result ≡ is_closed machine.now.state r }
 {
@@ -117,8 +117,8 @@ fn register_closed(machine: &Machine, r: Reg) -> bool
     }
 }
 
-/// Whether a place is closed: between the guard of a register and the use that the guard checks, where a wrong value may reach
-/// memory or a branch before any check. Only x1 to x13 are closed anywhere; every other register and every word is open.
+/// Whether a place is closed: between the guard of a register and the use that it guards, when a wrong value may reach
+/// memory or a branch before any check. Only x1 to x13 are ever closed; every other register and every word is open.
 pub fn closed(machine: &Machine, place: &Place) -> bool
     ensures exact { result ≡ is_closed_place machine.now.state place.now }
     ensures open { (result ≡ false) ↔ IsOpen machine.now.state place.now }

@@ -1,20 +1,20 @@
-//! How far long work is.
+//! The progress of long work.
 ghost use Rattle.std.specs.Prelude.{◌≡◌, ◌≤◌, ℕ};
 
-/// Someone who is told how far work is: how many of its parts, as strikes or steps, are done.
+/// Receives the progress of work: how many of its parts, for example strikes or steps, are done.
 pub trait Progress {
-    /// The number of parts that was told last,
+    /// The number of parts that was reported last.
     ghost told: { Self → ℕ };
 
-    /// and how many the work has.
+    /// The number of parts of the work.
     ghost all: { Self → ℕ };
 
-    /// Work of so many parts begins. If it ends without an error, it tells last that all of them are done.
+    /// Work of `parts` parts begins. If it ends without an error, its last report says that all are done.
     fn begin(&mut self, parts: u64)
         ensures told { told self.new ≡ 0 }
         ensures all { all self.new ≡ parts };
 
-    /// So many parts are done: no fewer than were told before, and no more than all.
+    /// `done` parts are done: no fewer than at the last report, and at most all.
     fn tell(&mut self, done: u64)
         requires rises { told self.old ≤ done }
         requires within { done ≤ all self.old }

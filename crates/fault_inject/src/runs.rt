@@ -10,8 +10,8 @@ use qed_model::{Change, Outcome};
 use rv_step::Machine;
 use std::alloc::AllocError;
 
-/// After how many steps it is told again how far a run is: those of some 60 ms, so that it is known each second, and beside which
-/// a run's begin takes no time.
+/// How many steps a run makes between two reports: in some 60 ms, so that its progress shows each
+/// second. Starting a run takes no time beside them.
 const TOLD_STEPS: u64 = 1 << 24;
 
 /// Whether the machine has not stopped.
@@ -21,7 +21,7 @@ pub(crate) fn is_going(machine: &Machine) -> bool
     matches!(machine.outcome(), Outcome::Going)
 }
 
-/// Makes a change, unless the machine has stopped. Where there is no memory for a page, nothing changes.
+/// Makes a change, unless the machine has stopped. If no memory is left for a page, nothing changes.
 pub(crate) fn make_change(machine: &mut Machine, change: &Change) -> Result<(), AllocError>
     ensures state { IfOk result (λ _. machine.new.state ≡ changed change.now machine.old.state) }
     ensures steps { IfOk result (λ _. machine.new.steps ≡ machine.old.steps) }
@@ -33,7 +33,7 @@ pub(crate) fn make_change(machine: &mut Machine, change: &Change) -> Result<(), 
     Ok(())
 }
 
-/// Runs a machine that has made `made` steps until it has made `next`, and tells that these are made.
+/// Runs a machine from step `made` to step `next`, and reports that.
 fn run_part(
     machine: &mut Machine,
     made: u64,
@@ -54,7 +54,7 @@ fn run_part(
     Ok(outcome)
 }
 
-/// The same in parts, so that it is told on the way how many steps are made.
+/// Runs a machine from step `from` to step `to` in parts, and reports each part.
 fn run_on(
     machine: &mut Machine,
     from: u64,
@@ -82,13 +82,13 @@ fn run_on(
     Ok(outcome)
 }
 
-/// Runs the machine for n steps with changes, and tells how it stands then, and on the way how many of the steps are made.
+/// Runs the machine for n steps with changes. Returns how it stands then, and reports its progress.
 ///
-/// The steps of the changes count from the call, and do not fall. Each change is made when so many steps were made, before the
-/// next one; those of one step in the order of the list. Changes behind the n-th step are not made, and a machine that has
-/// stopped is neither stepped nor changed. The time is that of the steps that are made and of one look at each change.
+/// The steps of the changes count from the call, and do not fall. A change at step k is made after k steps, before the
+/// next one; changes of one step in the order of the list. Changes behind the n-th step are not made, and a stopped
+/// machine is neither stepped nor changed. The time is that of the steps made and of one look at each change.
 ///
-/// Where there is no memory for a page, the machine stands as the steps and changes that were made have left it.
+/// If no memory is left for a page, the machine stands as the steps and changes so far have left it.
 pub fn run_changed(
     machine: &mut Machine,
     changes: &[Change],

@@ -11,14 +11,14 @@ use std::alloc::{AllocError, Global};
 /// What the first steps of a run touch.
 #[derive(Drop)]
 pub struct Trace {
-    /// The address that each loads from or stores to, 0 where it does neither,
+    /// The address that each step loads from or stores to; 0 if it does neither.
     places: Vec<u64>,
-    /// and the least and the greatest from which one is fetched.
+    /// The least and the greatest address from which a step is fetched.
     low: u64,
     high: u64,
 }
 
-/// The address that the next step loads from or stores to; 0 where it does neither.
+/// The address that the next step loads from or stores to; 0 if it does neither.
 fn touched(machine: &Machine) -> u64
     ensures { result ≡ touched_of machine.now.state }
 {
@@ -31,7 +31,7 @@ fn touched(machine: &Machine) -> u64
     }
 }
 
-/// Whether at most eight bytes from a place on may be some of the eight from an address on.
+/// Whether eight bytes or fewer from a place on may overlap the eight from an address on.
 #[inline(always)]
 fn is_near(place: u64, address: u64) -> bool
     ensures { result ≡ false → IsFar address place 8 }
@@ -40,7 +40,7 @@ fn is_near(place: u64, address: u64) -> bool
 }
 
 impl Trace {
-    /// One of no step.
+    /// A trace of no step.
     pub fn none(alloc: Global) -> Trace
         ensures trace { (s : State) → IsTrace s result }
         ensures count { length result.places.items ≡ 0 }
@@ -52,7 +52,7 @@ impl Trace {
         }
     }
 
-    /// One of so many steps of a machine, which makes them, or of those up to where it stops.
+    /// The trace of a machine's next `steps` steps, or of those before it stops; makes these steps.
     pub fn of(alloc: Global, machine: &mut Machine, steps: u64) -> Result<Trace, AllocError>
         ensures { IfOk result (IsTrace machine.old.state) }
     {

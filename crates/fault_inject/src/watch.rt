@@ -1,4 +1,4 @@
-//! Runs with changes, and where a jump by register leads astray in them.
+//! Runs with changes, and the indirect jumps in them that lead astray.
 ghost use Rattle.std.specs.Prelude.{◌≡◌, ◌-◌, ◌%◌, ◌≤◌, IfOk};
 ghost use Rattle.machine.specs.Progress.{advanced, progress as progress_of};
 ghost use Rattle.qed_model.specs.Promise.Changed.{Ordered, changed_run};
@@ -15,7 +15,7 @@ use rv_step::Machine;
 use std::alloc::AllocError;
 use std::collections::BTreeSet;
 
-/// After how many steps that are watched it is told again how far a run is.
+/// How many watched steps a run makes between two reports.
 const TOLD_STEPS: u64 = 1 << 20;
 
 /// Whether the next instruction is a JALR.
@@ -28,7 +28,7 @@ fn is_next_jalr(machine: &Machine) -> bool
     }
 }
 
-/// Makes a step, and tells its jump, from where to where, if that leads astray.
+/// Makes a step. Returns its jump, from where to where, if that leads astray.
 #[tactic(auto, unfolding(crate::specs::Astray::is_astray, machine::specs::Progress::advanced))]
 fn watched_step(
     machine: &mut Machine,
@@ -47,7 +47,7 @@ fn watched_step(
     Ok(None)
 }
 
-/// Tells that so many steps are made, `made` of them since the last change, where these are a multiple of some.
+/// Reports `done` steps if `made`, those since the last change, is a multiple of `TOLD_STEPS`.
 fn tell_at(progress: &mut dyn Progress, made: u64, done: u64)
     requires rises { told progress.old ≤ done }
     requires within { done ≤ all progress.old }
@@ -60,8 +60,8 @@ fn tell_at(progress: &mut dyn Progress, made: u64, done: u64)
     }
 }
 
-/// Runs a machine that has made `from` steps until it has made `to`, tells how many are made, and gives the first jump that leads
-/// astray.
+/// Runs a machine from step `from` to step `to`, and reports its progress. Returns the first jump
+/// that leads astray.
 fn watch_on(
     machine: &mut Machine,
     from: u64,
@@ -91,11 +91,11 @@ fn watch_on(
     Ok(found)
 }
 
-/// Runs the machine for n steps with changes, as `run_changed` does, and tells the first jump by register that leads to an address
-/// that is in none of the set: the address of the JALR, and the one to which it leads.
+/// Runs the machine for n steps with changes, as `run_changed` does. Returns the first indirect
+/// jump to an address outside the set: the address of the JALR, and its target.
 ///
-/// A JALR that traps leads nowhere. The time is that of the steps that are made, each by itself, and of one look at each change.
-/// An Err is want of memory for a page; how the machine stands then is left open.
+/// A JALR that traps leads nowhere. The time is that of the steps made, each by itself, and of one look at
+/// each change. An Err is want of memory for a page; how the machine stands then is left open.
 pub fn run_watched(
     machine: &mut Machine,
     changes: &[Change],

@@ -12,7 +12,7 @@ use Rattle.tests.specs.Admission.Leaders.{HasInstruction}
 use Rattle.machine.proofs.Lemmas.{among_of, contains_of, among-map, source_of}
 use Rattle.machine.specs.Members.{Among}
 
--- ---- where an instruction stands is a code address
+-- ---- an instruction stands at a code address
 code_of : (f : ElfFile) (a : ℕ) (i : Ins) (b : Bool) → is_code f a ≡ b → (if b then decode_of (word_at f a) else None) ≡ Some i → is_code f a ≡ true
 code_of f a i true e h = e
 code_of f a i false e h = absurd (cc)
@@ -26,13 +26,13 @@ module _ (f : ElfFile) (code : List CodeWord) (words : AreCodeWords f code) wher
   pub word_code : (c : CodeWord) → Among c code → is_code f c.at ≡ true
   word_code c m = (words.addresses.all c.at).0 (contains_of c.at (map (λ (d : CodeWord). d.at) code) (among-map (λ (d : CodeWord). d.at) c code m))
 
-  -- with its instruction
+  -- a word stands with its instruction
   pub word_stands : (c : CodeWord) → Among c code → instruction_at f c.at ≡ Some c.ins
   word_stands c m =
       let is = All-contains (IsCodeWord f) code c words.each (contains_of c code m) in
       ap (λ b. if b then decode_of (word_at f c.at) else None) (word_code c m) ∙ ap decode_of (sym is.word) ∙ is.instruction
 
-  -- at a code address stands a word
+  -- a word stands at each code address
   pub record WordAt (a : ℕ) : Type 0 where
     pub word : CodeWord
     pub among : Among word code
@@ -44,7 +44,7 @@ module _ (f : ElfFile) (code : List CodeWord) (words : AreCodeWords f code) wher
       let s = source_of (λ (d : CodeWord). d.at) code a m in
       record { word = s.source; among = s.among; at = s.is }
 
-  -- where an instruction stands, it is that of a word
+  -- an instruction that stands in the code is that of a word
   pub record WordOf (of : Class → Bool) (a : ℕ) (i : Ins) : Type 0 where
     pub word : CodeWord
     pub among : Among word code
@@ -59,6 +59,6 @@ module _ (f : ElfFile) (code : List CodeWord) (words : AreCodeWords f code) wher
       let same : s.instruction ≡ w.word.ins = cc in
       record { word = w.word; among = w.among; at = w.at; instruction = same; class = ap (λ (i : Ins). of (class_of i.kind)) (sym same) ∙ s.class }
 
-  -- and where a word is of a class, an instruction of the class stands
+  -- if a word is of a class, an instruction of the class stands in the code
   abbrev pub stands_word : (of : Class → Bool) (c : CodeWord) → Among c code → of (class_of c.ins.kind) ≡ true → HasInstruction f of c.at
   stands_word of c m e = record { instruction = c.ins; stands = word_stands c m; class = e }

@@ -1,4 +1,4 @@
--- What constants lead to: one step behind another, and a constant more.
+-- What constants lead to: one step behind another, and one more constant.
 use Rattle.std.proofs.Common.{◌≡◌, ℕ, zero, suc, Option, Some, None, ◌+◌, ◌<◌, ◌≤◌, ⊎_elim, Bool, true, false, List, [], ◌∷◌, ◌++◌, length, take, get_or, refl, sym, ap, ◌∙◌, subst}
 use Rattle.std.specs.Prelude.{◌==◌, ◌||◌, ◌&&◌, slice_set}
 use Rattle.std.specs.List.{list_any}
@@ -48,22 +48,22 @@ covers_then c s t u p q h g = record {
 pub covers_none : (c : Code) (s : Found) → Covers c s s (λ a. false)
 covers_none c s = record { kept = λ k. k; each = λ k a at. sym (or_false (covers c s a)) }
 
--- with equal tests
+-- one step, with equal tests
 pub covers_as : (c : Code) (s t : Found) (p q : ℕ → Bool) → ((a : ℕ) → p a ≡ q a) → Covers c s t p → Covers c s t q
 covers_as c s t p q same h = record { kept = h.kept; each = λ k a at. h.each k a at ∙ ap (λ b. covers c s a || b) (same a) }
 
--- one element more of a list, by its place
+-- one more element of a list, by its place
 pub covers_next : {X : Type 0} (c : Code) (p : X → ℕ → Bool) (xs : List X) (k : ℕ) (d : X) (s t u : Found) → k < length xs → Covers c s t (λ a. list_any (λ y. p y a) (take k xs)) → Covers c t u (p (get_or xs k d)) → Covers c s u (λ a. list_any (λ y. p y a) (take (k + 1) xs))
 covers_next c p xs k d s t u lt h g =
     covers_as c s u (λ a. list_any (λ y. p y a) (take k xs) || p (get_or xs k d) a) (λ a. list_any (λ y. p y a) (take (k + 1) xs))
     (λ a. sym (list_any_more (λ y. p y a) xs k d lt))
     (covers_then c s t u (λ b. list_any (λ y. p y b) (take k xs)) (p (get_or xs k d)) h g)
 
--- and by itself
+-- one more element of a list, by itself
 pub covers_more : {X : Type 0} (c : Code) (p : X → ℕ → Bool) (xs : List X) (k : ℕ) (x : X) (s t u : Found) → k < length xs → x ≡ get_or xs k x → Covers c s t (λ a. list_any (λ y. p y a) (take k xs)) → Covers c t u (p x) → Covers c s u (λ a. list_any (λ y. p y a) (take (k + 1) xs))
 covers_more c p xs k x s t u lt is h g = covers_next c p xs k x s t u lt h (subst (λ y. Covers c t u (p y)) is g)
 
--- and behind a step all elements of a list
+-- behind a step, all elements of a list
 pub covers_all :
     {X : Type 0} (c : Code) (p : X → ℕ → Bool) (q : ℕ → Bool) (xs : List X) (k : ℕ) (s t u : Found)
     → length xs ≤ k → Covers c s t q → Covers c t u (λ a. list_any (λ y. p y a) (take k xs)) → Covers c s u (λ a. q a || list_any (λ y. p y a) xs)
@@ -73,7 +73,7 @@ covers_all c p q xs k s t u all h g =
     (covers_then c s t u q (λ b. list_any (λ y. p y b) (take k xs)) h g)
 
 -- ---- a constant
--- that is remembered
+-- a constant that is remembered
 pub recent_covers : (c : Code) (f : Found) (u : ℕ) → is_recent f.recent.items u ≡ true → Covers c f f (leads c.test.now u)
 recent_covers c f u r = record { kept = λ k. k; each = λ k a at. by k a at (leads c.test.now u a) refl } where
   by : IsKept c f → (a : ℕ) → has_address c.places.now a ≡ true → (b : Bool) → leads c.test.now u a ≡ b → covers c f a ≡ (covers c f a || b)
@@ -82,7 +82,7 @@ recent_covers c f u r = record { kept = λ k. k; each = λ k a at. by k a at (le
       let is : covers c f a ≡ true = or_left (has_address f.reached a) (list_any (λ v. once c.test.now c.test.now.code 3 v a) f.pointers.items) (k u a r at e) in
       is ∙ sym (or_right (covers c f a) true refl)
 
--- to be remembered
+-- one place remembers another constant
 pub set_recent : (xs : List (Option ℕ)) (i v u : ℕ) → is_recent (slice_set xs i (Some v)) u ≡ true → (is_recent xs u || (v == u)) ≡ true
 set_recent [] i v u e = absurd (false≢true e)
 set_recent (x ∷ xs) zero v u e = ⊎_elim (λ h. or_right (is_at x u || is_recent xs u) (v == u) h) (λ h. or_left (is_at x u || is_recent xs u) (v == u) (or_right (is_at x u) (is_recent xs u) h)) (or_cases (v == u) (is_recent xs u) e)
@@ -91,11 +91,11 @@ set_recent (x ∷ xs) (suc i) v u e =
     (λ h. ⊎_elim (λ k. or_left (is_at x u || is_recent xs u) (v == u) (or_right (is_at x u) (is_recent xs u) k)) (λ k. or_right (is_at x u || is_recent xs u) (v == u) k) (or_cases (is_recent xs u) (v == u) (set_recent xs i v u h)))
     (or_cases (is_at x u) (is_recent (slice_set xs i (Some v)) u) e)
 
--- room for one more
+-- one more free place remembers nothing
 pub none_more : (xs : List (Option ℕ)) → ((u : ℕ) → is_recent xs u ≡ false) → (u : ℕ) → is_recent (xs ++ None ∷ []) u ≡ false
 none_more xs h u = list_any-append (λ s. is_at s u) xs (None ∷ []) ∙ ap (λ b. b || false) (h u)
 
--- that is added
+-- a constant that is added
 module _ (c : Code) (old new : Found) (value : ℕ) (middle : BTreeSet ℕ) (same : new.pointers ≡ old.pointers)
     (place : Gains old.reached middle (λ a. has_address c.places.now value && (value == a)))
     (tables : Gains middle new.reached (λ a. list_any (is_by_table c.test.now value a) c.test.now.segments))
@@ -150,12 +150,12 @@ told_any f g xs ys told p = both (list_any p xs) (list_any (λ y. f y && p (g y)
       let is = told (g n.member) ∙ any_passing (λ y. f y && (g y == g n.member)) n.member ys n.among (and_from (f n.member) (g n.member == g n.member) t.0 (eq-eqb (g n.member) (g n.member) refl)) in
       any_passing p (g n.member) xs (among_listed xs (g n.member) is) t.1
 
--- two lists that have the same
+-- two lists that hold equal addresses
 pub same_any : (xs ys : List ℕ) → ((a : ℕ) → lists xs a ≡ lists ys a) → (p : ℕ → Bool) → list_any p xs ≡ list_any p ys
 same_any xs ys same p = told_any (λ y. true) (λ y. y) xs ys same p
 
 -- ---- the global pointer
--- what one of its values leads to, by the offsets
+-- what one value leads to, by the offsets
 value_leads : (t : Test) (offsets : List ℕ) → ((a : ℕ) → lists offsets a ≡ list_any (λ d. is_offset d a) t.code) → (v a : ℕ) → sums_lead_on t offsets a v ≡ once t t.code 3 v a
 unfolding once
 value_leads t offsets told v a = ap (λ b. leads t v a || b) (told_any (λ (d : CodeWord). adds_to 3 d.ins) (λ d. imm d.ins) offsets t.code told (sum_leads_on t a v))
@@ -180,7 +180,7 @@ summed_is c f all new vs os values offsets words by_values by_offsets by_words r
     ∙ (λ i. has_address f.reached a || list_any (λ v. value_leads t offsets told v a i) values)
     ∙ ap (λ b. has_address f.reached a || b) (same_any values f.pointers.items values_are (λ v. once t t.code 3 v a))
 
--- ---- from nothing on
+-- ---- starting from nothing
 pub made_is :
     (c : Code) (f found : Found) (set : BTreeSet ℕ) (test : ℕ → Bool) → ((a : ℕ) → has_address f.reached a ≡ false) → f.pointers.items ≡ [] → ((u : ℕ) → is_recent f.recent.items u ≡ false)
     → Covers c f found test → (IsKept c found → (a : ℕ) → has_address c.places.now a ≡ true → has_address set a ≡ covers c found a)

@@ -33,7 +33,7 @@ use Rattle.flow_recovery.proofs.CodeLaws.{code_word, standing_word, stands_word}
 use Rattle.flow_recovery.proofs.OrderLaws.{pairs_of, rising, listed, among_listed, filter_alike, kept_lists, of_code_is}
 
 -- ---- what was collected
--- one step behind the other, from an empty set on
+-- one step behind another, starting from an empty set
 pub collected :
     (f : ElfFile) (o : Options) (t : Test) (words : List CodeWord) (symbols : List Symbol) (relas : List Rela) (s u v w x : List ℕ)
     → words ≡ t.code → symbols ≡ f.symbols → relas ≡ f.relas
@@ -65,11 +65,11 @@ module _ (f : ElfFile) (o : Options) (t : Test) (told : IsTestOf f o t) where
   abbrev words : AreCodeWords f code
   words = told.code
 
-  -- by the entry, the words, the symbols and the relocations
+  -- an address begins a block by the entry, the words, the symbols or the relocations
   abbrev is_named_by : ℕ → Bool
   is_named_by a = is_begun o t.entry code f.symbols f.relas a
 
-  -- or because it is reached
+  -- an address begins a block for one of these reasons, or because it is reached
   abbrev is_found : ℕ → Bool
   is_found a = is_named_by a || is_entered f o t a
 
@@ -117,11 +117,11 @@ module _ (f : ElfFile) (o : Options) (t : Test) (told : IsTestOf f o t) where
         (and_from (has_jalr code) (is_reached f t a) ((indirect_is f code (has_jalr code) words refl).1 h.1) (reached_by f o t a told h.2)),
   )
 
-  -- where code is, a word stands
+  -- at each code address a word stands
   code_stands : (a : ℕ) → is_code f a ≡ true → stands code a ≡ true
   code_stands a e = let all = map (λ (c : CodeWord). c.at) code in listed all a (among_of a all ((words.addresses.all a).1 e))
 
-  -- as a set
+  -- the reached addresses, as a set
   pub entered_set : (set : BTreeSet ℕ) (u v : List ℕ) → u ≡ [] → AddsAt code u v (is_entered f o t) → ((a : ℕ) → has_address set a ≡ lists v a) → (a : ℕ) → is_code f a ≡ true → IsTrue (has_address set a) ↔ IsEntered f o a
   entered_set set u v empty adds set_is a e =
       let is = set_is a ∙ at_first code u v (is_entered f o t) empty adds a (code_stands a e) in
@@ -133,7 +133,7 @@ module _ (f : ElfFile) (o : Options) (t : Test) (told : IsTestOf f o t) where
   begun : (a : ℕ) → is_found a ≡ true → Begins f o a
   begun a e = ⊎_elim (by_name a) (by_reach a) (or_cases (is_named_by a) (is_entered f o t a) e)
 
-  -- ---- and the other way
+  -- ---- from leaders to what was collected
   by_any : (c : CodeWord) (a : ℕ) → Among c code → begins_by o c a ≡ true → is_found a ≡ true
   by_any c a m e =
       or_left (is_named_by a) (is_entered f o t a)
@@ -166,7 +166,7 @@ module _ (f : ElfFile) (o : Options) (t : Test) (told : IsTestOf f o t) where
       (and_from (is_some o.lean) ((at % (4 * o.inst_max) == 0) && (at == a)) lean
       (and_from (at % (4 * o.inst_max) == 0) (at == a) (eq-eqb (at % (4 * o.inst_max)) 0 (ap (λ x. x % (4 * o.inst_max)) (sym w.at) ∙ multiple)) (eq-eqb at a (sym w.at))))))
 
-  -- ---- those of the code
+  -- ---- the addresses of code
   module _ (small : All (λ c. c.at < 2 ^ 64) code) where
     abbrev keeps : ℕ → Bool
     keeps a = is_code f a && is_found a
@@ -186,7 +186,7 @@ module _ (f : ElfFile) (o : Options) (t : Test) (told : IsTestOf f o t) where
     stand : (a : ℕ) → Among a addresses → is_code f a ≡ true
     stand a m = (words.addresses.all a).0 (contains_of a addresses m)
 
-    -- of what was listed
+    -- the leaders, from what was listed
     leaders_are : (v leaders : List ℕ) → ((a : ℕ) → Among a addresses → lists v a ≡ is_found a) → leaders ≡ filter (lists v) addresses → AreLeaders f o code leaders
     leaders_are v leaders listed_are is =
         let kept_are : leaders ≡ filter keeps addresses =
@@ -201,7 +201,7 @@ module _ (f : ElfFile) (o : Options) (t : Test) (told : IsTestOf f o t) where
           stands_at : (a : ℕ) → IsLeader f o a → Among a addresses
           stands_at a l = among_of a addresses ((words.addresses.all a).1 l.code)
 
--- the same of words that are those of the test
+-- the leaders, for words that are those of the test
 pub leaders_found :
     (f : ElfFile) (o : Options) (t : Test) (lent : List CodeWord) (u v leaders : List ℕ)
     → lent ≡ t.code → IsTestOf f o t → All (λ c. c.at < 2 ^ 64) t.code
@@ -211,7 +211,7 @@ leaders_found f o t lent u v leaders code told small named entered kept =
     leaders_are f o t told small v leaders (λ a m. entered.each a (listed (map (λ (c : CodeWord). c.at) t.code) a m) ∙ ap (λ b. b || is_entered f o t a) (named a))
     ((subst (λ (cs : List CodeWord). AllPairs (λ a b. a < b) (map (λ c. c.at) cs) → leaders ≡ filter (lists v) (map (λ c. c.at) cs)) code kept) told.code.addresses.ascend)
 
--- what was sorted, along the words
+-- a sorted list, along the words
 pub begun_is : (list sorted slice kept : List ℕ) (words : List CodeWord) → IsPermutation list sorted → IsSorted nat_cmp sorted → slice ≡ sorted → kept ≡ of_code slice words → AllPairs (λ a b. a < b) (map (λ c. c.at) words) → kept ≡ filter (lists list) (map (λ c. c.at) words)
 begun_is list sorted slice kept words moved order lent is ascend =
     let addresses = map (λ (c : CodeWord). c.at) words in

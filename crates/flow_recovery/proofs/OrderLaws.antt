@@ -26,7 +26,7 @@ listed xs a m = any_passing (λ b. b == a) a xs m (eq-eqb a a refl)
 pub among_listed : (xs : List ℕ) (a : ℕ) → lists xs a ≡ true → Among a xs
 among_listed xs a e = let p = passing (λ b. b == a) xs e in subst (λ x. Among x xs) (eqb-true p.member a p.passes) p.among
 
--- where two tests agree on the members, they keep the same
+-- two tests that agree on the members of a list keep equal lists
 pub filter_alike : {A : Type 0} (p q : A → Bool) (xs : List A) → ((x : A) → Among x xs → p x ≡ q x) → filter p xs ≡ filter q xs
 filter_alike p q [] same = refl
 filter_alike p q (x ∷ xs) same =
@@ -85,6 +85,6 @@ of_code_is named (c ∷ cs) h k =
     ∙ filter_alike (lists rest) (lists named) (map (λ (d : CodeWord). d.at) cs) (λ a m. let lt = every_among (λ y. c.at < y) a (map (λ (d : CodeWord). d.at) cs) k.0 m in from_lists c.at named a (omega (arith, lt))) in
     ap (λ b. if b then c.at ∷ of_code rest cs else of_code rest cs) (first_lists c.at named h) ∙ ap (λ ys. if lists named c.at then c.at ∷ ys else ys) behind
 
--- ascending by places
+-- a list that ascends, by places
 pub rising : (xs : List ℕ) → IsNonDecreasing xs → Pairs (λ x y. x ≤ y) xs
 rising xs h = pairs_of (λ x y. x ≤ y) xs (λ i j d lt le. h i j d (omega (arith, lt)) le)

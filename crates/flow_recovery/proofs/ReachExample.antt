@@ -1,4 +1,4 @@
--- A test of nine words of which five are reached, each for a reason of its own; by computing.
+-- A test of nine words; five are reached, each for its own reason. Proved by computing.
 use Rattle.std.proofs.Common.{◌≡◌, ℕ, ◌+◌, true, false, List, [], ◌∷◌, map, refl}
 use Rattle.std.specs.Prelude.{pos}
 use Rattle.elf_types.specs.declared.abi.TheConstants.{PT_LOAD, PF_R}
@@ -9,7 +9,7 @@ use Rattle.tests.specs.declared.test.Test.{Test}
 use Rattle.machine.specs.Table.{ins, Ins, Auipc, Addi, Jalr, Ecall}
 use Rattle.tests.specs.Admission.Reached.{leads, once, twice, made_by, is_reached}
 
--- constants at 4144 and 4097, a linking jump to 4116, and ends; `word` is not looked at
+-- constants at 4144 and 4097, a linking jump to 4116, and ends; no rule looks at `word`
 abbrev code_from : ℕ → List Ins → List CodeWord
 code_from a [] = []
 code_from a (i ∷ is) = record { at = a; word = 0; ins = i } ∷ code_from (a + 4) is
@@ -40,7 +40,7 @@ test = record {
   segments = data_segment ∷ [];
 }
 
--- the entry; the link; by two immediates; by the distance; by the word
+-- the entry; by the link; by two immediates; by the distance; by the word
 reached_words : map (λ c. is_reached file test c.at) code ≡ true ∷ false ∷ false ∷ false ∷ true ∷ true ∷ true ∷ true ∷ false ∷ []
 unfolding leads once twice made_by
 reached_words = refl

@@ -1,4 +1,4 @@
--- What was collected is what is reached.
+-- The addresses that were collected are the reached ones.
 use Rattle.std.proofs.Common.{◌≡◌, ℕ, Bool, true, List, [], ◌∷◌, map, inl, inr, refl, ap, ◌∙◌, subst}
 use Rattle.std.specs.Prelude.{◌==◌, ◌||◌}
 use Rattle.std.specs.List.{list_any}
@@ -16,7 +16,7 @@ use Rattle.tests.specs.Admission.Reached.{links_to, is_in_data, is_made, is_reac
 use Rattle.flow_recovery.proofs.SetLaws.{adds_then}
 use Rattle.flow_recovery.proofs.OrderLaws.{listed}
 
--- one step behind the other, where the lists are those of the test and of the file
+-- one step behind another, with the lists of the test and of the file
 pub reached_found :
     (f : ElfFile) (t : Test) (words : List CodeWord) (symbols : List Symbol) (relas : List Rela) (segments : List Segment) (made : List ℕ) (s u v w x y z : List ℕ)
     → words ≡ t.code → symbols ≡ f.symbols → relas ≡ f.relas → segments ≡ t.segments

@@ -1,4 +1,4 @@
--- What is added to a list of addresses: by one step behind another, and one element of another list more at a time.
+-- Additions to a list of addresses: one step behind another, and one more element of another list at a time.
 use Rattle.std.proofs.Common.{◌≡◌, ℕ, ◌+◌, ◌<◌, ◌≤◌, Bool, true, List, [], length, take, get_or, sym, ap, ◌∙◌}
 use Rattle.std.specs.Prelude.{◌||◌}
 use Rattle.std.specs.List.{list_any}
@@ -12,7 +12,7 @@ use Rattle.flow_recovery.specs.Sets.{lists, stands, Adds, AddsAt}
 pub adds_then : (s t u : List ℕ) (p q : ℕ → Bool) → Adds s t p → Adds t u q → Adds s u (λ a. p a || q a)
 adds_then s t u p q h g = record { each = λ a. g.each a ∙ ap (λ b. b || q a) (h.each a) ∙ or_assoc (lists s a) (p a) (q a) }
 
--- one element more of a list
+-- one more element of a list
 pub adds_more : {X : Type 0} (p : X → ℕ → Bool) (xs : List X) (k : ℕ) (x : X) (s t u : List ℕ) → k < length xs → x ≡ get_or xs k x → Adds s t (λ a. list_any (λ y. p y a) (take k xs)) → Adds t u (p x) → Adds s u (λ a. list_any (λ y. p y a) (take (k + 1) xs))
 adds_more p xs k x s t u lt is h g = record {
   each = λ a.
@@ -20,15 +20,15 @@ adds_more p xs k x s t u lt is h g = record {
       ∙ ap (λ b. lists s a || b) (ap (λ y. list_any (λ z. p z a) (take k xs) || p y a) is ∙ sym (list_any_more (λ y. p y a) xs k x lt));
 }
 
--- to an empty list
+-- additions to an empty list
 pub adds_first : (s t : List ℕ) (p : ℕ → Bool) → s ≡ [] → Adds s t p → (a : ℕ) → lists t a ≡ p a
 adds_first s t p empty h a = h.each a ∙ ap (λ xs. lists xs a || p a) empty
 
--- and where only addresses count at which words stand
+-- additions to an empty list, if only addresses of words count
 pub at_first : (words : List CodeWord) (s t : List ℕ) (p : ℕ → Bool) → s ≡ [] → AddsAt words s t p → (a : ℕ) → stands words a ≡ true → lists t a ≡ p a
 at_first words s t p empty h a at = h.each a at ∙ ap (λ xs. lists xs a || p a) empty
 
--- and behind it all elements of a list
+-- behind a step, all elements of a list
 pub adds_all :
     {X : Type 0} (p : X → ℕ → Bool) (q : ℕ → Bool) (xs : List X) (k : ℕ) (s t u : List ℕ)
     → length xs ≤ k → Adds s t q → Adds t u (λ a. list_any (λ y. p y a) (take k xs)) → Adds s u (λ a. q a || list_any (λ y. p y a) xs)

@@ -1,4 +1,4 @@
--- What constants lead to, where sums of the global pointer's values are to come.
+-- What constants lead to, while sums of the global pointer's values are still to come.
 use Rattle.std.specs.Prelude.{◌≡◌, ℕ, ◌+◌, ◌%◌, ◌^◌, ◌==◌, ◌&&◌, ◌||◌, Bool, true, Option, List}
 use Rattle.std.specs.List.{list_any}
 use Rattle.machine.specs.Numbers.{is_at}
@@ -10,11 +10,11 @@ use Rattle.tests.specs.Admission.Reached.{leads, once, adds_to}
 use Rattle.flow_recovery.specs.declared.found.Code.{Code}
 use Rattle.flow_recovery.specs.declared.found.Found.{Found}
 
--- the constant is among those that are remembered
+-- the constant is remembered
 abbrev pub is_recent : List (Option ℕ) → ℕ → Bool
 is_recent recent u = list_any (λ s. is_at s u) recent
 
--- what constants that are remembered lead to was added
+-- all that remembered constants lead to was added
 abbrev pub IsKept : Code → Found → Type 0
 IsKept c f = (u a : ℕ) → is_recent f.recent.items u ≡ true → has_address c.places.now a ≡ true → leads c.test.now u a ≡ true → has_address f.reached a ≡ true
 
@@ -22,12 +22,12 @@ IsKept c f = (u a : ℕ) → is_recent f.recent.items u ≡ true → has_address
 abbrev pub covers : Code → Found → ℕ → Bool
 covers c f a = has_address f.reached a || list_any (λ v. once c.test.now c.test.now.code 3 v a) f.pointers.items
 
--- what is found covers what it did and what passes the test, of the addresses at which words stand
+-- at the addresses of words: the new finds cover what the old ones did and what passes the test, and no more
 pub record Covers (c : Code) (old new : Found) (test : ℕ → Bool) : Type 0 where
   pub kept : IsKept c old → IsKept c new
   pub each : IsKept c old → (a : ℕ) → has_address c.places.now a ≡ true → covers c new a ≡ (covers c old a || test a)
 
--- what is found, with what is to come, covers what it did and what passes the test
+-- at the addresses of words: with `rest`, the new finds cover what the old ones did and what passes the test
 pub record CoversBut (c : Code) (old new : Found) (test rest : ℕ → Bool) : Type 0 where
   pub kept : IsKept c old → IsKept c new
   pub each : IsKept c old → (a : ℕ) → has_address c.places.now a ≡ true → (covers c new a || rest a) ≡ (covers c old a || test a)
@@ -40,6 +40,6 @@ is_offset c a = adds_to 3 c.ins && (imm c.ins == a)
 abbrev pub sum_leads_on : Test → ℕ → ℕ → ℕ → Bool
 sum_leads_on t a value offset = leads t ((value + offset) % 2 ^ 64) a
 
--- itself or with one of the offsets
+-- a value leads to the address, itself or with one of the offsets
 abbrev pub sums_lead_on : Test → List ℕ → ℕ → ℕ → Bool
 sums_lead_on t offsets a value = leads t value a || list_any (sum_leads_on t a value) offsets

@@ -5,11 +5,11 @@ use Rattle.std.specs.BTreeSet.{BTreeSet}
 use Rattle.machine.specs.Sets.{has_address}
 use Rattle.tests.specs.declared.test.CodeWord.{CodeWord}
 
--- whether the list has it
+-- the list holds the address
 abbrev pub lists : List ℕ → ℕ → Bool
 lists addresses a = list_any (λ b. b == a) addresses
 
--- the new list has what the old one has, and what passes the test
+-- the new list holds what the old one does and what passes the test
 pub record Adds (old new : List ℕ) (test : ℕ → Bool) : Type 0 where
   pub each : (a : ℕ) → lists new a ≡ (lists old a || test a)
 
@@ -17,28 +17,28 @@ pub record Adds (old new : List ℕ) (test : ℕ → Bool) : Type 0 where
 abbrev pub stands : List CodeWord → ℕ → Bool
 stands words a = lists (map (λ c. c.at) words) a
 
--- the new list has what the old one has, and what passes the test, of the addresses at which words stand
+-- at the addresses of words: the new list holds what the old one does and what passes the test
 pub record AddsAt (words : List CodeWord) (old new : List ℕ) (test : ℕ → Bool) : Type 0 where
   pub each : (a : ℕ) → stands words a ≡ true → lists new a ≡ (lists old a || test a)
 
--- the new set has what the old one has, and what passes the test
+-- the new set holds what the old one does and what passes the test
 pub record Gains (old new : BTreeSet ℕ) (test : ℕ → Bool) : Type 0 where
   pub each : (a : ℕ) → has_address new a ≡ (has_address old a || test a)
 
--- the new list has what the old one has, and what passes the test, where some of that is to come
+-- with `rest`, the new list holds what the old one does and what passes the test
 pub record AddsBut (old new : List ℕ) (test rest : ℕ → Bool) : Type 0 where
   pub each : (a : ℕ) → (lists new a || rest a) ≡ (lists old a || test a)
 
--- those of ascending addresses that are not below a
+-- of ascending addresses, those that are not below a
 abbrev pub from_on : ℕ → List ℕ → List ℕ
 from_on a [] = []
 from_on a (b ∷ bs) = if nat_lt b a then from_on a bs else b ∷ bs
 
--- the first of them is a
+-- the first of the addresses is a
 abbrev pub is_first : ℕ → List ℕ → Bool
 is_first a [] = false
 is_first a (b ∷ bs) = b == a
 
--- the new set with what is to come has what the old one has, and what passes the test
+-- with `rest`, the new set holds what the old one does and what passes the test
 pub record GainsBut (old new : BTreeSet ℕ) (test rest : ℕ → Bool) : Type 0 where
   pub each : (a : ℕ) → (has_address new a || rest a) ≡ (has_address old a || test a)

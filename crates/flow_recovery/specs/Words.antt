@@ -1,4 +1,4 @@
--- Where blocks begin, by lists of words, symbols and relocations, and by what is reached.
+-- Where blocks begin, by lists of words, symbols and relocations, and by reached addresses.
 use Rattle.std.specs.Prelude.{ℕ, ◌+◌, ◌*◌, ◌%◌, ◌^◌, ◌==◌, ◌&&◌, ◌||◌, Bool, true, false, if◌then◌else◌, nat_lt, is_some, List, [], ◌∷◌}
 use Rattle.std.specs.List.{list_any}
 use Rattle.elf_types.specs.declared.file.Symbol.{Symbol}
@@ -18,15 +18,15 @@ use Rattle.flow_recovery.specs.Sets.{from_on, is_first}
 abbrev pub leads_to : CodeWord → ℕ → Bool
 leads_to c a = has_target (class_of c.ins.kind) && (target c.ins c.at == a)
 
--- the address, below 2^64, is the one behind the word, which is an end
+-- the word ends a block, and the address, below 2^64, is the one behind it
 abbrev pub ends_before : CodeWord → ℕ → Bool
 ends_before c a = is_end (class_of c.ins.kind) && (nat_lt a (2 ^ 64) && (c.at + 4 == a))
 
--- in the lean form it is that of the word, and a multiple of so many words as a piece has at most
+-- in the lean form: the address is the word's, and a multiple of the most bytes that a piece has
 abbrev pub is_even : Options → CodeWord → ℕ → Bool
 is_even o c a = is_some o.lean && ((c.at % (4 * o.inst_max) == 0) && (c.at == a))
 
--- any of these
+-- a block begins at the address by any of these
 abbrev pub begins_by : Options → CodeWord → ℕ → Bool
 begins_by o c a = leads_to c a || (ends_before c a || is_even o c a)
 
@@ -34,16 +34,16 @@ begins_by o c a = leads_to c a || (ends_before c a || is_even o c a)
 abbrev pub is_begun : Options → ℕ → List CodeWord → List Symbol → List Rela → ℕ → Bool
 is_begun o entry words symbols relas a = (entry == a) || (list_any (λ c. begins_by o c a) words || (is_named symbols a || is_relocated symbols relas a))
 
--- of other addresses those alone have entries that are reached
+-- besides other leaders, only reached addresses have entries
 abbrev pub is_chosen : Entries → Bool
 is_chosen entries.All = false
 is_chosen entries.Reached = true
 
--- the address is such a one, and some word is a JALR
+-- the address is an entry since it is reached, and some word is a JALR
 abbrev pub is_entered : ElfFile → Options → Test → ℕ → Bool
 is_entered f o t a = is_chosen o.entries && (list_any (λ c. is_indirect (class_of c.ins.kind)) t.code && is_reached f t a)
 
--- those of ascending addresses at which words stand
+-- of ascending addresses, those at which words stand
 abbrev pub of_code : List ℕ → List CodeWord → List ℕ
 of_code named [] = []
 of_code named (c ∷ cs) = if is_first c.at (from_on c.at named) then c.at ∷ of_code (from_on c.at named) cs else of_code (from_on c.at named) cs

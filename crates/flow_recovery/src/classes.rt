@@ -5,7 +5,7 @@ ghost use Rattle.tests.specs.Admission.Reached.{is_jump};
 
 use rv_isa::Class;
 
-/// Whether it leads to an address that is known: JAL and branches.
+/// Whether it leads to a known address: JAL and branches.
 pub fn has_target(class: Class) -> bool
     ensures { result ≡ has_target class }
 {
@@ -22,7 +22,7 @@ pub fn is_end(class: Class) -> bool
     )
 }
 
-/// Whether it leads to an address that a register holds: JALR.
+/// Whether it leads to an address in a register: JALR.
 pub fn is_indirect(class: Class) -> bool
     ensures { result ≡ is_indirect class }
 {

@@ -1,4 +1,4 @@
-//! Addresses that LUI, AUIPC and additions to x0 make, with at most two immediates more.
+//! Addresses that LUI, AUIPC and additions to x0 make, with at most two more immediates.
 ghost use Rattle.std.specs.Prelude.{◌≡◌, OnOk};
 ghost use Rattle.machine.specs.Step.{target};
 ghost use Rattle.flow_recovery.specs.Found.{Covers};
@@ -10,7 +10,7 @@ use qed_model::CodeWord;
 use rv_isa::{Ins, Kind, Reg};
 use std::alloc::AllocError;
 
-/// How many words behind the one that makes a constant are looked at.
+/// How many words behind the word that makes a constant are searched.
 const NEAR: usize = 16;
 
 /// The global pointer, which is set once (RISC-V psABI, register convention).
@@ -58,14 +58,14 @@ fn add_once(found: &mut Found, code: &Code<'_>, known: &Known<'_>) -> Result<(),
     Ok(())
 }
 
-/// The words near by that may use a register: of x0 none.
+/// The nearby words that may use a register; none for x0.
 fn users(register: Reg, near: &[CodeWord]) -> &[CodeWord]
     ensures { result.now ≡ users register near.now }
 {
     if register.number() == 0 { &[] } else { near }
 }
 
-/// Adds what a register's value leads to, with one word near by: of the global pointer with any word of the code, later.
+/// Adds what a register's value leads to, with one nearby word. Sums of the global pointer, with any word, come later.
 fn add_held(
     found: &mut Found,
     code: &Code<'_>,
@@ -86,7 +86,7 @@ fn add_held(
     add_once(found, code, &known)
 }
 
-/// Adds what a word, and one more near by, make of a register's value.
+/// Adds what a word, and one more nearby, make of a register's value.
 fn add_sums(
     found: &mut Found,
     code: &Code<'_>,
@@ -102,7 +102,7 @@ fn add_sums(
     Ok(())
 }
 
-/// Adds a register's value, and what the immediates of at most two words near by make of it.
+/// Adds a register's value, and what the immediates of at most two nearby words make of it.
 fn add_twice(found: &mut Found, code: &Code<'_>, known: &Known<'_>) -> Result<(), AllocError>
     ensures { OnOk result (Covers code.now found.old found.new (twice code.now.test.now known.now.near.now known.now.register known.now.value)) }
 {
@@ -120,7 +120,7 @@ fn makes_constant(ins: &Ins) -> bool
     matches!(ins.kind, Kind::Lui | Kind::Auipc) || adds_to(0, ins)
 }
 
-/// The constant that such a word makes.
+/// The constant that a word makes.
 fn constant(word: &CodeWord) -> u64
     ensures { result ≡ constant word.now.ins.kind word.now }
 {

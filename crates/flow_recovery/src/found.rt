@@ -1,4 +1,4 @@
-//! What constants lead to. A constant that comes again is skipped.
+//! What constants lead to. A repeated constant is skipped.
 ghost use Rattle.std.specs.Prelude.{◌≡◌, ◌%◌, [], ℕ, ◌==◌, ◌&&◌, ◌||◌, Option, None, true, false, OnOk, IfOk};
 ghost use Rattle.machine.specs.Sets.{has_address};
 ghost use Rattle.tests.specs.Admission.Reached.{leads, once};
@@ -11,8 +11,8 @@ use qed_model::{CodeWord, Test};
 use std::alloc::{AllocError, Global};
 use std::collections::BTreeSet;
 
-/// How many constants are remembered. A number has 4,096 sums with an immediate at most, all near it. So where numbers ascend, no
-/// sum pushes out another that comes again.
+/// How many constants are remembered. A number has at most 4,096 sums with an immediate, all near
+/// it. So if numbers ascend, no sum pushes out another that comes again.
 const RECENT: u64 = 8192;
 
 /// A test, and the addresses at which the words of its code stand.
@@ -25,11 +25,11 @@ pub(crate) struct Code<'a> {
 /// What the constants so far lead to.
 #[derive(Drop)]
 pub(crate) struct Found {
-    /// The code addresses.
+    /// The code addresses that they lead to.
     pub(crate) reached: BTreeSet<u64>,
-    /// Values of the global pointer, to which each word of the code may add its immediate.
+    /// Values of the global pointer; each word of the code may add its immediate to them.
     pub(crate) pointers: Vec<u64>,
-    /// Constants whose addresses are in `reached`, each at the place of its remainder.
+    /// Constants whose addresses are in `reached`, each at the index of its remainder.
     pub(crate) recent: Vec<Option<u64>>,
 }
 
@@ -53,7 +53,7 @@ fn remember(recent: &mut Vec<Option<u64>>, value: u64)
     }
 }
 
-/// Adds an address, where a word of the code stands there.
+/// Adds an address, if a word of the code stands there.
 fn add_place(reached: &mut BTreeSet<u64>, code: &Code<'_>, address: u64) -> Result<(), AllocError>
     ensures { OnOk result (Gains reached.old reached.new (λ a. has_address code.now.places.now address && (address == a))) }
 {
@@ -63,7 +63,7 @@ fn add_place(reached: &mut BTreeSet<u64>, code: &Code<'_>, address: u64) -> Resu
     Ok(())
 }
 
-/// Adds a constant, and where tables of distances from it lead.
+/// Adds a constant, and what tables of distances from it lead to.
 #[tactic(auto, using(crate::proofs::FoundLaws::recent_covers))]
 pub(crate) fn add_constant(found: &mut Found, code: &Code<'_>, value: u64) -> Result<(), AllocError>
     ensures same { OnOk result (found.new.pointers ≡ found.old.pointers) }
@@ -98,7 +98,7 @@ fn nothing_recent(alloc: Global) -> Result<Vec<Option<u64>>, AllocError>
     Ok(recent)
 }
 
-/// Nothing, with that room.
+/// Nothing found, with room for constants.
 pub(crate) fn begun(alloc: Global) -> Result<Found, AllocError>
     ensures empty { IfOk result (λ found. (a : ℕ) → has_address found.reached a ≡ false) }
     ensures none { IfOk result (λ found. found.pointers.items ≡ []) }

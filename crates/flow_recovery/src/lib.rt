@@ -1,4 +1,4 @@
-//! Where the blocks of a test begin, and where jumps by register may lead.
+//! Where the blocks of a test begin, and where indirect jumps may lead.
 #![tactic(auto)]
 
 mod classes;

@@ -37,7 +37,7 @@ fn is_code_relocation(rela: &Rela) -> bool
     matches!(rela.kind, 1 | 2 | 16 | 17 | 18 | 19 | 23 | 26 | 27 | 28)
 }
 
-/// The value of the relocation's symbol plus its addend, modulo 2^64, where there is such a symbol.
+/// The value of the relocation's symbol plus its addend, modulo 2^64, if it has a symbol.
 fn relocated(symbols: &[Symbol], rela: &Rela) -> Option<u64>
     ensures { result ≡ relocated symbols.now rela.now }
 {
@@ -45,7 +45,7 @@ fn relocated(symbols: &[Symbol], rela: &Rela) -> Option<u64>
     Some(symbol.value.wrapping_add(rela.addend.cast_unsigned()))
 }
 
-/// Adds what a relocation of code comes to.
+/// Adds the value of a relocation of code.
 fn add_relocation(list: &mut Vec<u64>, symbols: &[Symbol], rela: &Rela) -> Result<(), AllocError>
     ensures { OnOk result (Adds list.old.items list.new.items (λ a. is_code_relocation rela.now && is_at (relocated symbols.now rela.now) a)) }
 {
@@ -58,7 +58,7 @@ fn add_relocation(list: &mut Vec<u64>, symbols: &[Symbol], rela: &Rela) -> Resul
     Ok(())
 }
 
-/// Adds what the relocations of code come to.
+/// Adds the values of the relocations of code.
 pub fn add_relocations(
     list: &mut Vec<u64>,
     symbols: &[Symbol],

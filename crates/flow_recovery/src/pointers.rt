@@ -1,4 +1,4 @@
-//! The sums of the global pointer's values and the immediates that are added to it.
+//! The sums of the global pointer's values and the immediates that words add to it.
 ghost use Rattle.std.specs.Prelude.{◌≡◌, ℕ, ◌+◌, ◌%◌, ◌^◌, ◌==◌, ◌&&◌, true, OnOk, IfOk};
 ghost use Rattle.std.specs.List.{list_any};
 ghost use Rattle.machine.specs.Sets.{has_address};
@@ -23,7 +23,7 @@ fn add_offset(list: &mut Vec<u64>, word: &CodeWord) -> Result<(), AllocError>
     Ok(())
 }
 
-/// Adds those of all words.
+/// Adds the immediates that all words add to the global pointer.
 fn add_offsets(list: &mut Vec<u64>, words: &[CodeWord]) -> Result<(), AllocError>
     ensures { OnOk result (Adds list.old.items list.new.items (λ a. list_any (λ c. is_offset c a) words.now)) }
 {
@@ -61,7 +61,7 @@ fn add_pointed(
     Ok(())
 }
 
-/// Adds those of all values, which ascend, so that each sum is new or was made a short while ago.
+/// Adds the values, which ascend, with their sums: each sum is new, or was made a short while ago.
 fn add_all_pointed(
     found: &mut Found,
     code: &Code<'_>,
@@ -77,7 +77,7 @@ fn add_all_pointed(
     Ok(())
 }
 
-/// What constants lead to, with what the global pointer's values do.
+/// What constants lead to, with the sums of the global pointer's values.
 fn summed(alloc: Global, found: Found, code: &Code<'_>) -> Result<BTreeSet<u64>, AllocError>
     ensures { IfOk result (λ set. IsKept code.now found → (a : ℕ) → has_address code.now.places.now a ≡ true → has_address set a ≡ covers code.now found a) }
 {
@@ -99,7 +99,7 @@ fn summed(alloc: Global, found: Found, code: &Code<'_>) -> Result<BTreeSet<u64>,
 }
 
 #[tactic(auto, using(crate::proofs::FoundLaws::made_is))]
-/// The addresses to which the constants of the code lead, of those at which words stand all.
+/// The addresses that the constants of the code lead to: all at which words stand.
 pub(crate) fn made(alloc: Global, test: &Test) -> Result<Vec<u64>, AllocError>
     ensures { IfOk result (λ list. (a : ℕ) → stands test.now.code a ≡ true → lists list.items a ≡ is_made test.now a test.now.code) }
 {

@@ -35,7 +35,7 @@ fn add_links(list: &mut Vec<u64>, words: &[CodeWord]) -> Result<(), AllocError>
     Ok(())
 }
 
-/// Adds the addresses that are reached, where they are code.
+/// Adds the reached addresses that are code.
 #[tactic(auto, using(crate::proofs::ReachLaws::reached_found))]
 pub(crate) fn add_reached(
     list: &mut Vec<u64>,
@@ -55,7 +55,7 @@ pub(crate) fn add_reached(
     Ok(())
 }
 
-/// These addresses.
+/// The reached addresses.
 #[tactic(auto, using(crate::proofs::SetLaws::at_first))]
 fn listed(alloc: Global, test: &Test, file: &ElfFile) -> Result<Vec<u64>, AllocError>
     ensures { IfOk result (λ list. (a : ℕ) → stands test.now.code a ≡ true → lists list.items a ≡ is_reached file.now test.now a) }
@@ -75,8 +75,8 @@ fn marks(alloc: Global, set: &BTreeSet<u64>, words: &[CodeWord]) -> Result<Vec<b
         .collect(alloc)
 }
 
-/// For each word of the code of a test, whether it is reached: whether a jump by register may lead to it, as far as `file`
-/// shows, from which the test was made. An Err is want of memory.
+/// For each word of a test's code, whether it is reached: whether an indirect jump may lead to it,
+/// as the test's `file` shows. An Err is want of memory.
 pub fn reached(alloc: Global, test: &Test, file: &ElfFile) -> Result<Vec<bool>, AllocError>
     ensures { IfOk result (λ marks. marks.items ≡ map (λ c. is_reached file.now test.now c.at) test.now.code) }
 {

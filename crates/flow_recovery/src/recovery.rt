@@ -22,7 +22,7 @@ use qed_model::{CodeWord, Entries, Options, Test};
 use std::alloc::{AllocError, Global};
 use std::collections::BTreeSet;
 
-/// Those of ascending addresses that are not below one.
+/// Of ascending addresses, those that are not below one.
 fn from_on(address: u64, addresses: &[u64]) -> &[u64]
     ensures { result.now ≡ from_on address addresses.now }
 {
@@ -46,7 +46,7 @@ fn is_first(address: u64, addresses: &[u64]) -> bool
     }
 }
 
-/// Those of ascending addresses at which words of the code stand, which ascend too.
+/// Of ascending addresses, those at which words of the code stand, which ascend too.
 fn of_code(alloc: Global, named: &[u64], words: &[CodeWord]) -> Result<Vec<u64>, AllocError>
     ensures { IfOk result (λ kept. kept.items ≡ of_code named.now words.now) }
 {
@@ -61,8 +61,8 @@ fn of_code(alloc: Global, named: &[u64], words: &[CodeWord]) -> Result<Vec<u64>,
     Ok(kept)
 }
 
-/// The addresses at which blocks begin by the entry, by the words themselves, or by a symbol or a relocation, whether a word
-/// stands there or not.
+/// The addresses at which blocks begin by the entry, by the words themselves, or by a symbol or a
+/// relocation; no word need stand there.
 #[tactic(auto, using(crate::proofs::LeaderLaws::collected))]
 fn named(
     alloc: Global,
@@ -82,14 +82,14 @@ fn named(
     Ok(list)
 }
 
-/// Whether of other addresses those alone have entries that are reached.
+/// Whether, besides other leaders, only reached addresses have entries.
 fn is_chosen(entries: Entries) -> bool
     ensures { result ≡ is_chosen entries }
 {
     matches!(entries, Entries::Reached)
 }
 
-/// Adds the addresses that are reached, where they alone have entries and the code has a JALR.
+/// Adds the reached addresses, if only they have entries and the code has a JALR.
 fn add_entered(
     list: &mut Vec<u64>,
     test: &Test,
@@ -104,8 +104,8 @@ fn add_entered(
     Ok(())
 }
 
-/// The code addresses to which a JALR of the file that `test` is may lead, where such addresses alone have entries; else none. What
-/// it has of other addresses is not said.
+/// The code addresses to which a JALR of the file that `test` is may lead, if only such addresses
+/// have entries; else none. Nothing is said of other addresses in the set.
 #[tactic(auto, using(crate::proofs::LeaderLaws::entered, crate::proofs::SetLaws::at_first))]
 pub fn entered(
     alloc: Global,
@@ -122,7 +122,7 @@ pub fn entered(
     Ok(set)
 }
 
-/// Those of the addresses at which words of the code stand, in ascending order.
+/// Of the addresses, those at which words of the code stand, in ascending order.
 fn begun(alloc: Global, mut list: Vec<u64>, words: &[CodeWord]) -> Result<Vec<u64>, AllocError>
     ensures { IfOk result (λ begun. AllPairs (λ a b. a < b) (map (λ c. c.at) words.now) → begun.items ≡ filter (lists list.items) (map (λ c. c.at) words.now)) }
 {

@@ -1,4 +1,4 @@
-//! Addresses: first a list, in any order and more than once, and then a set.
+//! Addresses: first a list, in any order and with repetitions, then a set.
 ghost use Rattle.std.specs.Prelude.{◌≡◌, ℕ, ◌==◌, map, OnOk, IfOk};
 ghost use Rattle.machine.specs.Sets.{has_address};
 ghost use Rattle.flow_recovery.specs.Sets.{lists, stands, Adds, Gains};
@@ -15,7 +15,7 @@ pub fn add(list: &mut Vec<u64>, address: u64) -> Result<(), AllocError>
     Ok(())
 }
 
-/// The addresses of a list as a set, which is made at once.
+/// The addresses of a list as a set, built at once.
 pub fn set_of(alloc: Global, list: Vec<u64>) -> Result<BTreeSet<u64>, AllocError>
     ensures { IfOk result (λ set. (a : ℕ) → has_address set a ≡ lists list.items a) }
 {

@@ -1,4 +1,4 @@
-//! Addresses that stand in the bytes of the segments: alone, and as distances in tables.
+//! Addresses in the bytes of the segments: alone, and as distances in tables.
 ghost use Rattle.std.specs.Prelude.{◌≡◌, ◌+◌, ◌*◌, ◌%◌, ◌^◌, ◌<◌, map, drop, OnOk};
 ghost use Rattle.std.specs.List.{list_any};
 ghost use Rattle.machine.specs.Numbers.{words_of};
@@ -17,7 +17,7 @@ use std::alloc::AllocError;
 use std::collections::BTreeSet;
 use tests::{is_code_address, rest_of};
 
-/// How far from a base on the first address is that has the word as its low 32 bits.
+/// The distance from a base to the first address at or behind it whose low 32 bits are the word.
 fn offset_of(base: u64, word: u64) -> u64
     requires { word < 2 ^ 32 }
     ensures { result ≡ offset_of base word }
@@ -25,7 +25,7 @@ fn offset_of(base: u64, word: u64) -> u64
     (word + (0x1_0000_0000 - base % 0x1_0000_0000)) % 0x1_0000_0000
 }
 
-/// Adds that address, where it may be one of the image.
+/// Adds the address with this low half, if it may be in the image.
 fn add_low_half(list: &mut Vec<u64>, base: u64, word: u64) -> Result<(), AllocError>
     requires { word < 2 ^ 32 }
     ensures { OnOk result (Adds list.old.items list.new.items (λ a. is_low_half base a word)) }
@@ -37,7 +37,7 @@ fn add_low_half(list: &mut Vec<u64>, base: u64, word: u64) -> Result<(), AllocEr
     Ok(())
 }
 
-/// Adds those of each word.
+/// Adds the address for the low half in each word.
 fn add_low_halves(list: &mut Vec<u64>, base: u64, bytes: &[u8]) -> Result<(), AllocError>
     ensures { OnOk result (Adds list.old.items list.new.items (λ a. list_any (is_low_half base a) (words_of bytes.now))) }
 {
@@ -57,7 +57,7 @@ fn add_segment(list: &mut Vec<u64>, base: u64, segment: &Segment) -> Result<(), 
     add_low_halves(list, base, rest_of(segment.bytes.as_slice(), skipped))
 }
 
-/// Adds those of all segments.
+/// Adds the addresses whose low halves stand in the words of all segments.
 pub fn add_data(list: &mut Vec<u64>, base: u64, segments: &[Segment]) -> Result<(), AllocError>
     ensures { OnOk result (Adds list.old.items list.new.items (λ a. list_any (is_in_data base a) segments.now)) }
 {
@@ -75,7 +75,7 @@ fn distance_from(base: u64, word: u64) -> u64
     base.wrapping_add(i64::from((word as u32).cast_signed()).cast_unsigned())
 }
 
-/// Adds where a table of distances leads, as long as it leads to code.
+/// Adds what a table of distances leads to, as long as that is code.
 fn add_distances(
     set: &mut BTreeSet<u64>,
     ranges: &[Range],
@@ -107,7 +107,7 @@ fn bytes_from(segment: &Segment, address: u64) -> &[u8]
     }
 }
 
-/// Adds where a table in a segment leads.
+/// Adds what a table in a segment leads to.
 fn add_table(
     set: &mut BTreeSet<u64>,
     test: &Test,
@@ -120,7 +120,7 @@ fn add_table(
     add_distances(set, test.ranges.as_slice(), base, bytes)
 }
 
-/// Adds where tables of distances from a base lead.
+/// Adds what tables of distances from a base lead to.
 pub fn add_tables(set: &mut BTreeSet<u64>, test: &Test, base: u64) -> Result<(), AllocError>
     ensures { OnOk result (Gains set.old set.new (λ a. list_any (is_by_table test.now base a) test.now.segments)) }
 {

@@ -1,4 +1,4 @@
-//! The addresses at which blocks begin by what the instructions of the code are.
+//! The addresses at which blocks begin because of the instructions of the code.
 ghost use Rattle.std.specs.Prelude.{◌≡◌, ◌==◌, ◌&&◌, ◌<◌, ◌^◌, OnOk, All, nat_lt};
 ghost use Rattle.std.specs.List.{list_any};
 ghost use Rattle.rv_isa.specs.Kind.{class_of};
@@ -30,7 +30,7 @@ fn add_target(list: &mut Vec<u64>, word: &CodeWord) -> Result<(), AllocError>
     Ok(())
 }
 
-/// Adds the address behind an end, where there is one.
+/// Adds the address behind a word that ends a block, if there is one.
 fn add_next(list: &mut Vec<u64>, word: &CodeWord) -> Result<(), AllocError>
     ensures { OnOk result (Adds list.old.items list.new.items (ends_before word.now)) }
 {
@@ -43,8 +43,8 @@ fn add_next(list: &mut Vec<u64>, word: &CodeWord) -> Result<(), AllocError>
     Ok(())
 }
 
-/// Adds the address of a word, where the form is lean and it is a multiple of so many words as a piece has at most, so that no block
-/// has more instructions than a piece.
+/// Adds the address of a word, if the form is lean and the address is a multiple of the bytes that
+/// a piece may have. So no block has more instructions than a piece.
 fn add_even(list: &mut Vec<u64>, word: &CodeWord, options: &Options) -> Result<(), AllocError>
     ensures { OnOk result (Adds list.old.items list.new.items (is_even options.now word.now)) }
 {
@@ -55,12 +55,12 @@ fn add_even(list: &mut Vec<u64>, word: &CodeWord, options: &Options) -> Result<(
     Ok(())
 }
 
-/// Adds all of these.
+/// Adds the addresses at which blocks begin because of one word.
 fn add_word(list: &mut Vec<u64>, word: &CodeWord, options: &Options) -> Result<(), AllocError>
     ensures adds { OnOk result (Adds list.old.items list.new.items (begins_by options.now word.now)) }
     ensures small { OnOk result (word.now.at < 2 ^ 64) }
 {
-    // A number behind a reference is known to be below 2^64 only where it is read.
+    // The contract of a reference promises that a number is below 2^64 only when it is read.
     let _at = word.at;
     add_target(list, word)?;
     add_next(list, word)?;
@@ -68,7 +68,7 @@ fn add_word(list: &mut Vec<u64>, word: &CodeWord, options: &Options) -> Result<(
     Ok(())
 }
 
-/// Adds what the words say.
+/// Adds the addresses at which blocks begin because of the words.
 #[tactic(auto, using(std::proofs::lemmas::List::take_all, crate::proofs::SetLaws::adds_more))]
 pub fn add_words(
     list: &mut Vec<u64>,

@@ -87,7 +87,7 @@ honest_last true i n t e m c en a near has calm ent =
       front = other_word c a i class.Branch has.0 e (λ e. absurd (cc));
     }
 
--- by the class of the end
+-- by the class of the block's end
 honest_as : (c : Class) (next : ℕ) (far : Bool) (i : Ins) (at : ℕ) → class_of i.kind ≡ c → IsLeft c next i at → HonestItems far (left_as c next far i at)
 honest_as class.Compute next far i at e f = honest_go_on far next
 honest_as class.End next far i at e f = honest_end far i class.End e tt

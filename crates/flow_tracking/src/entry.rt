@@ -8,12 +8,12 @@ use rv_isa::profile::{SIGNATURE, TEMPORARY};
 use rv_isa::{Ins, Kind, register};
 use std::alloc::AllocError;
 
-/// Begins the entry of the input address, and fires where the signature is another. It looks at no
+/// Begins the entry of the input address, and fires if the signature is another. It looks at no
 /// instruction.
 #[derive(Clone, Copy, Drop)]
 pub struct Entry;
 
-/// Appends what fires where the signature is not that of an input address.
+/// Appends what fires if the signature is not that of an input address.
 ///
 /// Errors: want of memory, and then nothing is appended.
 pub fn put_check_sign(at: u64, out: &mut Emit) -> Result<(), AllocError>

@@ -14,9 +14,9 @@ use rv_isa::profile::{DISTANCE, SIGNATURE, SPARE, TEMPORARY};
 use rv_isa::{Class, Ins, Kind, Reg, register};
 use std::alloc::AllocError;
 
-/// The leave of a block's end, or of a block that falls to `next`, for which the instruction is
-/// `Ins::nop()`. Of a branch `next` is the address behind it. In the far form of the code a jump to an
-/// entry has two words.
+/// The leave of a block's end, or of a block that falls through to `next`; then the instruction is
+/// `Ins::nop()`. For a branch `next` is the address behind it. In the far form a jump to an entry
+/// has two words.
 #[derive(Clone, Copy, Drop)]
 pub struct Leave {
     pub next: u64,
@@ -79,7 +79,7 @@ fn put_jump(ins: &Ins, at: u64, out: &mut Emit) -> Result<(), AllocError>
     Ok(())
 }
 
-/// The way of a branch by the originals.
+/// The way that a branch takes, by the originals.
 #[tactic(auto, using(passes::specs::Emitted::part_none, passes::specs::Emitted::part_first, passes::specs::Emitted::part_second))]
 fn put_way(ins: &Ins, next: u64, to: u64, far: bool, out: &mut Emit) -> Result<(), AllocError>
     requires rs1 { ins.now.rs1 ≤ LAST_ORIGINAL }
@@ -180,7 +180,7 @@ fn put_aim(ins: &Ins, at: u64, out: &mut Emit) -> Result<(), AllocError>
     Ok(())
 }
 
-/// The jump of a JALR: the guard of its original, which gives the target, and the look-up. The pair has set the signature.
+/// The jump of a JALR: the guard of its original, the look-up of its target. The pair has set the signature.
 #[tactic(auto, using(passes::specs::Emitted::part_none, passes::specs::Emitted::part_first, passes::specs::Emitted::part_second))]
 fn put_leap(ins: &Ins, at: u64, out: &mut Emit) -> Result<(), AllocError>
     requires rd { ins.now.rd ≤ LAST_ORIGINAL }

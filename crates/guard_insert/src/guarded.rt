@@ -9,8 +9,8 @@ use passes::{Emit, Pass, put_guards};
 use rv_isa::{Class, Ins};
 use std::alloc::AllocError;
 
-/// The comparisons of the base of an access and of a stored register with their pairs, and then what the
-/// pass emits.
+/// Compares the base of an access and a stored register with their pairs, then does what the pass
+/// emits.
 #[derive(Clone, Copy, Drop)]
 pub struct Guarded<A> {
     pub pass: A,
@@ -18,7 +18,7 @@ pub struct Guarded<A> {
 
 /// Appends the guards of an instruction.
 ///
-/// Errors: want of memory, and then the first of them are appended.
+/// Errors: want of memory; then a first part is appended.
 fn put_guards_of(ins: &Ins, out: &mut Emit) -> Result<(), AllocError>
     requires { AllLow (used_of ins.now) }
     ensures all { OnOk result (out.new ≡ out.old ++ guards_of (used_of ins.now)) }

@@ -1,4 +1,4 @@
--- Harts stand so with their steps and without.
+-- The outcomes of harts are those of harts with their steps.
 use Rattle.std.proofs.Common.{◌≡◌, Bool, List, [], ◌∷◌, map, refl, ap}
 use Rattle.std.specs.Prelude.{◌||◌}
 use Rattle.std.specs.List.{list_any}

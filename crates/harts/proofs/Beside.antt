@@ -1,4 +1,4 @@
--- One hart's step and changes, where the memory has more than the bytes of its own file.
+-- One hart's step and changes, in a memory that has more than the bytes of its own file.
 use Rattle.std.proofs.Common.{◌≡◌, ℕ, ◌+◌, ◌*◌, ◌/◌, ◌%◌, ◌^◌, ◌<◌, ⊎_elim, Bool, true, false, cond, ◌&&◌, List, [], ◌∷◌, Option, Some, None, is_some, refl, sym, ap, ◌∙◌, subst, arith}
 use Rattle.std.specs.Prelude.{◌==◌, nat_lt}
 use Rattle.std.specs.Option.{option_map}
@@ -28,48 +28,48 @@ use Rattle.qed_model.proofs.Lemmas.{some_of_allows}
 abbrev pub beside : Memory → State → State
 beside m s = state_of (hart_of s) m
 
--- a memory m has the cells of the file g as the memory of a run of g alone has them, which has no others
+-- a memory m has the cells of the file g as s has them; s, a memory of g alone, has no others
 pub record Holds (g : Program) (s m : Memory) : Type 0 where
   pub cells : (q : ℕ) → is_mapped g q ≡ true → get m q ≡ get s q
   pub mapped : (q : ℕ) → is_some (get s q) ≡ is_mapped g q
 
--- v is the hart of t beside another memory, which has the cells of g as t has them, and all others as m has them
+-- v is the hart of t with another memory, which has the cells of g as t has them, and all others as m has them
 pub record Does (g : Program) (m : Memory) (t v : State) : Type 0 where
   pub is : v ≡ beside v.memory t
   pub holds : Holds g t.memory v.memory
   pub others : (q : ℕ) → q < 2 ^ 64 → is_mapped g q ≡ false → get v.memory q ≡ get m q
 
 -- ---- cells
--- another byte maps and unmaps nothing
+-- a byte with another value maps and unmaps nothing
 mapped_with : (f : Cell → Cell) (o : Option Cell) → is_some (option_map f o) ≡ is_some o
 mapped_with f None = refl
 mapped_with f (Some c) = refl
 
 module _ (g : Program) (s m : Memory) (h : Holds g s m) where
-  -- a write to both
+  -- a write to both memories
   pub holds_put : (a n x : ℕ) → Holds g (put s a n x) (put m a n x)
   holds_put a n x = record {
     cells = λ q o. get-put m a n x q ∙ ap (option_map (λ c. with_byte (cond (nat_lt (offset a q) n) (byte_of x (offset a q)) c.byte) c)) (h.cells q o) ∙ sym (get-put s a n x q);
     mapped = λ q. ap is_some (get-put s a n x q) ∙ mapped_with _ (get s q) ∙ h.mapped q;
   }
 
-  -- what is granted alone is the file's own
+  -- an access granted alone touches only the file's own cells
   pub granted_own : (need : Flags → Bool) (a n : ℕ) → grants need s a n ≡ true → (k : ℕ) → k < n → is_mapped g (wrap (a + k)) ≡ true
   granted_own need a n ok k l = sym (h.mapped (wrap (a + k))) ∙ some_of_allows need (get s (wrap (a + k))) (grants_at need s a n k ok l)
 
-  -- so its cells are the same
+  -- a cell of a granted access is equal in both memories
   granted_cell : (need : Flags → Bool) (a n : ℕ) → grants need s a n ≡ true → (k : ℕ) → k < n → get m (wrap (a + k)) ≡ get s (wrap (a + k))
   granted_cell need a n ok k l = h.cells (wrap (a + k)) (granted_own need a n ok k l)
 
-  -- and it is granted
+  -- an access granted alone is granted beside
   pub granted_beside : (need : Flags → Bool) (a n : ℕ) → grants need s a n ≡ true → grants need m a n ≡ true
   granted_beside need a n ok = grants_from need m a n (λ i l. ap (allows need) (granted_cell need a n ok i l) ∙ grants_at need s a n i ok l)
 
-  -- and the number is the same
+  -- the number read beside is the number read alone
   pub number_beside : (need : Flags → Bool) (a n : ℕ) → grants need s a n ≡ true → number m a n ≡ number s a n
   number_beside need a n ok = same_number m s a n (λ i l. byte_of_cell m (wrap (a + i)) ∙ ap byte_in (granted_cell need a n ok i l) ∙ sym (byte_of_cell s (wrap (a + i))))
 
-  -- what is fetched alone is fetched
+  -- an instruction fetched alone is fetched beside
   pub fetched_beside : (ranges : List (ℕ × ℕ)) (a : ℕ) → (fetched_at s ranges a ≡ Refused → ⊥) → fetched_at m ranges a ≡ fetched_at s ranges a
   unfolding fetched_at
   fetched_beside ranges a some = tests (a % 4 == 0) (in_range a ranges) (grants (λ f. f.execute) s a 4) (grants (λ f. f.execute) m a 4) (number s a 4) (number m a 4) (λ ok. (granted_beside (λ f. f.execute) a 4 ok, number_beside (λ f. f.execute) a 4 ok)) some where
@@ -84,13 +84,13 @@ pub others_put : (g : Program) (m : Memory) (a n x : ℕ) → a < 2 ^ 64 → ((k
 others_put g m a n x la own q lq out =
     get-put_outside m a n x q (⊎_elim (λ l. absurd (false≢true (sym out ∙ subst (λ k. is_mapped g k ≡ true) (wrap_offset a q la lq) (own (offset a q) l)))) (λ l. l) (cases_lt (offset a q) n))
 
--- ---- what is made of a state, alone and beside the memory
+-- ---- the effect on a state, alone and beside the memory
 module _ (g : Program) where
-  -- the same of equal states
+  -- the effect on equal states
   does_at : (m : Memory) (t t' v v' : State) → t ≡ t' → v ≡ v' → Does g m t' v' → Does g m t v
   does_at m t t' v v' a b d = subst (λ x. Does g m x v) (sym a) (subst (λ x. Does g m t' x) (sym b) d)
 
-  -- what leaves the memory
+  -- an effect that leaves the memory
   plain : (s t v : State) (m : Memory) → Holds g s.memory m → t.memory ≡ s.memory → v ≡ beside m t → Does g m t v
   plain s t v m h same e = record {
     is = e ∙ ap (λ x. beside x t) (sym (ap (λ x. x.memory) e));
@@ -101,7 +101,7 @@ module _ (g : Program) where
     others = λ q l o. ap (λ x. get x.memory q) e;
   }
 
-  -- one after the other
+  -- one effect after another
   pub does_then : (f : State → State) (m : Memory) (t v : State) → Does g m t v → ((k : Memory) → Holds g t.memory k → Does g k (f t) (f (beside k t))) → Does g m (f t) (f v)
   does_then f m t v d then =
       let r = then v.memory d.holds in
@@ -128,7 +128,7 @@ module _ (g : Program) where
   does_jump : (regs : List ℕ) (t : ℕ) (s : State) (m : Memory) → Holds g s.memory m → Does g m (jumped regs t s) (jumped regs t (beside m s))
   does_jump regs t s m h = plain s (jumped regs t s) (jumped regs t (beside m s)) m h (jumped_memory regs t s) (jumped_beside m regs t s)
 
-  -- what does not trap was granted
+  -- a step that does not trap was granted its access
   granted_if : (b : Bool) (x : State) (c : Cause) (s : State) → NotTrapped (cond b x (trapped c s)) → b ≡ true
   granted_if true x c s n = refl
   granted_if false x c s n = absurd (false≢true (sym n))
@@ -181,13 +181,13 @@ module _ (g : Program) where
   does_class class.Break i s m h n = plain s (stopped Fired s) (stopped Fired (beside m s)) m h refl refl
   does_class class.Illegal i s m h n = plain s (trapped (cause.Word 0) s) (trapped (cause.Word 0) (beside m s)) m h refl refl
 
-  -- what was fetched
+  -- what is fetched decides
   does_act : (f : Fetched) (s : State) (m : Memory) → Holds g s.memory m → NotTrapped (act f s) → Does g m (act f s) (act f (beside m s))
   does_act Refused s m h n = plain s (trapped cause.Fetch s) (trapped cause.Fetch (beside m s)) m h refl refl
   does_act (Unknown w) s m h n = plain s (trapped (cause.Word w) s) (trapped (cause.Word w) (beside m s)) m h refl refl
   does_act (Known i) s m h n = does_class (class_of i.kind) i s m h n
 
-  -- by the outcome
+  -- the outcome decides
   does_step_at : (o : Outcome) (s : State) (m : Memory) → Holds g s.memory m → NotTrapped (step_at o s) → Does g m (step_at o s) (step_at o (beside m s))
   does_step_at Going s m h n = does_at m (act (next s) s) (act (next s) s) (act (next (beside m s)) (beside m s)) (act (next s) (beside m s)) refl (ap (λ f. act f (beside m s)) (fetched_beside g s.memory m h s.ranges s.pc (λ e. false≢true (sym (subst (λ f. NotTrapped (act f s)) e n))))) (does_act (next s) s m h n)
   does_step_at o s m h n = plain s s (beside m s) m h refl refl
@@ -203,17 +203,17 @@ module _ (g : Program) where
   does_struck (Reg r) x s m l h = plain s (moved (set_reg r x s.regs) s.pc s) (moved (set_reg r x s.regs) s.pc (beside m s)) m h refl refl
   does_struck (Word a) x s m l h = record { is = refl; holds = holds_put g s.memory m h a 8 x; others = others_put g m a 8 x l.0 l.1 }
 
-  -- by the outcome
+  -- a change, by the outcome
   does_changed : (o : Outcome) (c : Change) (s : State) (m : Memory) → LiesIn g c.place → Holds g s.memory m → Does g m (changed_as o c s) (changed_as o c (beside m s))
   does_changed Going c s m l h = does_struck c.place c.value s m l h
   does_changed o c s m l h = plain s s (beside m s) m h refl refl
 
-  -- where its step has come
+  -- a change, if its step has come
   does_due : (b : Bool) (c : Change) (s : State) (m : Memory) → LiesIn g c.place → Holds g s.memory m → Does g m (cond b (changed c s) s) (cond b (changed c (beside m s)) (beside m s))
   does_due true c s m l h = does_changed s.outcome c s m l h
   does_due false c s m l h = plain s s (beside m s) m h refl refl
 
-  -- all that are due
+  -- all changes that are due
   pub does_changes : (cs : List Change) (n : ℕ) (s : State) (m : Memory) → AllLieIn g cs → Holds g s.memory m → Does g m (with_changes cs n s) (with_changes cs n (beside m s))
   unfolding with_changes
   does_changes [] n s m l h = plain s s (beside m s) m h refl refl

@@ -35,13 +35,13 @@ inside (s ∷ ss) q e =
 mapped_inside : (g : Program) (q : ℕ) → AllFitMemory g.segments → is_mapped g q ≡ true → Inside g.segments q
 mapped_inside g q fit e = inside g.segments q (ap is_some (sym (get_among g.segments q (all_sized g.segments fit))) ∙ e)
 
--- a file of a list that is sound fits
+-- a file of a sound list fits
 fits : (gs : List Program) (i : ℕ) (g : Program) → AreSound gs → IsProgram gs i g → AllFitMemory g.segments
 fits [] i g sound e = absurd (cc)
 fits (x ∷ gs) zero g sound e = let is : x ≡ g = cc in subst (λ y. AllFitMemory y.segments) is sound.0
 fits (x ∷ gs) (suc i) g sound e = fits gs i g sound.2 e
 
--- has addresses below 2^64 alone
+-- a fitting segment has only addresses below 2^64
 low_in : (s : LoadSegment) (q : ℕ) → FitsMemory s → has s q ≡ true → q < 2 ^ 64
 low_in s q fit e =
     let p = has_parts s q e in
@@ -49,11 +49,11 @@ low_in s q fit e =
     let b = p.1 in omega (arith, b, c)
 
 -- ---- the files are apart
--- segments of both that share a byte
+-- two segments that share a byte
 both_at : (ss ts : List LoadSegment) (i j : ℕ) (s t : LoadSegment) → slice_get ss i ≡ Some s → slice_get ts j ≡ Some t → share s t ≡ true → any_share ss ts ≡ true
 both_at ss ts i j s t a b h = any_passes_from_place (λ x. list_any (share x) ts) ss i s a (any_passes_from_place (share s) ts j t b h)
 
--- an address that two files have
+-- an address in two files
 shares : (g h : Program) (q : ℕ) → Inside g.segments q → Inside h.segments q → any_share g.segments h.segments ≡ true
 shares g h q x y = both_at g.segments h.segments x.place y.place x.segment y.segment x.stands y.stands (share_at x.segment y.segment q x.has y.has)
 
@@ -81,7 +81,7 @@ fit_append : (xs ys : List LoadSegment) → AllFitMemory xs → AllFitMemory ys 
 fit_append [] ys a b = b
 fit_append (x ∷ xs) ys a b = (a.0, fit_append xs ys a.1 b)
 
--- a place of two lists is one of the first, or one of the second
+-- a place in two lists joined is one of the first, or one of the second
 record Behind (xs ys : List LoadSegment) (k : ℕ) (s : LoadSegment) : Type 0 where
   place : ℕ
   is : k ≡ length xs + place
@@ -104,7 +104,7 @@ apart_append xs ys a b cross i j o = by (at_append xs ys i o.first o.first_at) (
   by (inr p) (inl q) = let l = slice_get_within xs j o.second q in let k = p.is in let m = o.order in absurd (omega (arith, l, k, m))
   by (inr p) (inr q) = let k = p.is in let l = q.is in let m = o.order in b p.place q.place (record { order = omega (arith, k, l, m); first = o.first; second = o.second; first_at = p.stands; second_at = q.stands; share = o.share })
 
--- the file of one of all segments
+-- the file of a segment among all segments
 record Of (gs : List Program) (s : LoadSegment) : Type 0 where
   number : ℕ
   file : Program

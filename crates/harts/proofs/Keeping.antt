@@ -1,4 +1,4 @@
--- What is promised of a hart's file holds of the hart after turns without changes.
+-- The promises on a hart's file hold of the hart after turns without changes.
 use Rattle.std.proofs.Common.{ℕ, List, [], refl, sym, ap, ◌∙◌}
 use Rattle.std.specs.Prelude.{slice_get}
 use Rattle.machine.specs.Program.{Program}

@@ -1,4 +1,4 @@
--- What is promised of a hart's file holds of the hart, in its own turns.
+-- The promises on a hart's file hold of the hart, in its own turns.
 use Rattle.std.proofs.Common.{◌≡◌, ℕ, ◌≤◌, ◌⊎◌, inl, inr, Bool, true, List, [], is_some, sym, ap, ◌∙◌, subst}
 use Rattle.std.specs.Prelude.{◌↔◌, slice_index}
 use Rattle.std.proofs.lemmas.Option.{same_Some}
@@ -20,12 +20,12 @@ use Rattle.harts.proofs.Beside.{Holds}
 use Rattle.harts.proofs.Together.{stand_after}
 
 -- ---- a hart that is seen
--- it is the hart of its own run, and the memory has its cells
+-- the hart is that of its own run, and the memory has its cells
 record Mine (g : Program) (u s : State) : Type 0 where
   hart : hart_of u ≡ hart_of s
   holds : Holds g s.memory u.memory
 
--- equal runs
+-- the hart of equal runs
 mine_as : (g : Program) (u s t : State) → s ≡ t → Mine g u s → Mine g u t
 mine_as g u s t e m = subst (Mine g u) e m
 
@@ -40,7 +40,7 @@ seen_mine gs i g c k u e x =
     } in
     mine_as g u s (changed_run (start g zeros) c k) (ap (λ y. changed_run (start g zeros) y (hart_turns x.schedule i)) x.own ∙ ap (changed_run (start g zeros) c) x.turns) m
 
--- without changes it is the plain run
+-- without changes the own run is the plain run
 seen_plain : (gs : List Program) (i : ℕ) (g : Program) (k : ℕ) (u : State) → IsProgram gs i g → IsSeen gs i [] k u → Mine g u (after_output g zeros k)
 seen_plain gs i g k u e x = mine_as g u (changed_run (start g zeros) [] k) (after_output g zeros k) (run_unchanged (start g zeros) k) (seen_mine gs i g [] k u e x)
 
@@ -52,7 +52,7 @@ same_outcome g u s m = ap (λ h. h.outcome) m.hart
 cell_of_mine : (g : Program) (u s : State) → Mine g u s → (q : ℕ) → is_some (get s.memory q) ≡ true → get u.memory q ≡ get s.memory q
 cell_of_mine g u s m q o = m.holds.cells q (sym (m.holds.mapped q) ∙ o)
 
--- so it has the values that its own run has
+-- the hart has the values that its own run has
 halves_mine : (f g : Program) (a u s : State) → Mine g u s → Halves f a s → Halves f a u
 halves_mine f g a u s m h = record {
   regs = λ r l k. ap (λ x. slice_index x.regs r) m.hart ∙ h.regs r l k;
@@ -83,7 +83,7 @@ kept gs i f g reached first bound e k = record {
         ended = λ z. let r = h.ended (sym o ∙ z) in (r.0, halves_mine f g (after_input f m) u (after_output g zeros m) x r.1);
       }
 
--- states of one own run
+-- two states of one own run
 same_hart : (g : Program) (u v s t : State) → Mine g u s → Mine g v t → s ≡ t → SameHart g u v
 same_hart g u v s t x y e =
     let z = mine_as g u s t e x in

@@ -18,11 +18,11 @@ use Rattle.rv_step.specs.Known.{goes_on}
 use Rattle.harts.specs.Standing.{AreIdle}
 use Rattle.harts.proofs.Steps.{length_turns, set_same}
 
--- its number is below the count
+-- the hart's number is below the count
 pub below : (hs : List HartState) (m : Memory) (c : Counted) (i : ℕ) → counted hs m ≡ c → i < length c.world.harts → i < length hs
 below hs m c i v l = subst (λ n. i < n) (ap (λ x. length x.world.harts) (sym v) ∙ length-map hs bare) l
 
--- so it stands there
+-- the hart stands at its number
 pub hart_read : (hs : List HartState) (m : Memory) (c : Counted) (i : ℕ) (h : HartState) → counted hs m ≡ c → i < length c.world.harts → h ≡ get_or hs i h → slice_get hs i ≡ Some h
 hart_read hs m c i h v l e = slice_get-get_or hs i h (below hs m c i v l) ∙ ap Some (sym e)
 
@@ -32,12 +32,12 @@ pub none_played : (c : Counted) (ds : List ℕ) → c ≡ counted_turns c (cycle
 unfolding counted_turns cycled
 none_played c ds = refl
 
--- one more
+-- one more turn
 pub more_played : (c s t : Counted) (ds : List ℕ) (k : ℕ) → s ≡ counted_turns c (cycled ds k) → t ≡ counted_turn (slice_index ds (k % length ds)) s → t ≡ counted_turns c (cycled ds (k + 1))
 unfolding counted_turns cycled
 more_played c s t ds k e is = let one : k + 1 ≡ suc k = omega arith in is ∙ ap (counted_turn (slice_index ds (k % length ds))) e ∙ ap (λ n. counted_turns c (cycled ds n)) (sym one)
 
--- the hart of a turn is there
+-- the hart of a turn still exists
 pub there_still : (c s : Counted) (ds : List ℕ) (k : ℕ) → s ≡ counted_turns c (cycled ds k) → 0 < length ds → ((j : ℕ) → j < length ds → slice_index ds j < length c.world.harts) → slice_index ds (k % length ds) < length s.world.harts
 there_still c s ds k e some all = subst (λ n. slice_index ds (k % length ds) < n) (sym (ap (λ x. length x.world.harts) e ∙ length_turns c (cycled ds k))) (all (k % length ds) (omega (arith, some)))
 
@@ -57,7 +57,7 @@ idle_steps : (o : Option Hart) (i : ℕ) (ns : List ℕ) → IfSome o (λ h. goe
 idle_steps None i ns idle = refl
 idle_steps (Some h) i ns idle = ap (slice_set ns i) (as_many h.outcome (slice_index ns i) idle) ∙ set-get_or ns i 0
 
--- one changes nothing
+-- a turn of a hart that does not go on changes nothing
 idle_turn : (c : Counted) (i : ℕ) → IfSome (slice_get c.world.harts i) (λ h. goes_on h.outcome ≡ false) → counted_turn i c ≡ c
 unfolding on_hart
 idle_turn c i idle =
@@ -68,7 +68,7 @@ idle_at : (c : Counted) (ds : List ℕ) (k : ℕ) (o : Option Hart) → AreIdle 
 idle_at c ds k None idle l e = tt
 idle_at c ds k (Some h) idle l e = idle.each k h l e
 
--- so no more are needed
+-- more turns of harts that do not go on change nothing
 idle_more : (c s : Counted) (ds : List ℕ) (k n : ℕ) → AreIdle s ds → 0 < length ds → s ≡ counted_turns c (cycled ds k) → s ≡ counted_turns c (cycled ds (k + n))
 unfolding counted_turns cycled
 idle_more c s ds k zero idle some e = let none : k ≡ k + 0 = omega arith in e ∙ ap (λ m. counted_turns c (cycled ds m)) none
@@ -82,11 +82,11 @@ pub all_played : (c s : Counted) (ds : List ℕ) (k n : ℕ) → AreIdle s ds �
 all_played c s ds k n idle some e most = let sum : k + (n - k) ≡ n = omega arith in idle_more c s ds k (n - k) idle some e ∙ ap (λ m. counted_turns c (cycled ds m)) sum
 
 -- ---- a lack of memory
--- ---- places that are taken round and round
+-- ---- places in a circle
 pub first_place : (n : ℕ) → 0 < n → 0 ≡ 0 % n
 first_place n some = let all : 0 * n + 0 ≡ 0 = omega arith in sym (ap (λ m. m % n) (sym all) ∙ mod-mul-add 0 n 0 some)
 
--- what is left of k decides what is left of k + 1
+-- the remainder of k decides that of k + 1
 pub next_place : (k n : ℕ) → 0 < n → (k % n + 1) % n ≡ (k + 1) % n
 next_place k n some =
     let parts : k % n + k / n * n ≡ k = mod-add-div' k n in

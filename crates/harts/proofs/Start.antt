@@ -11,7 +11,7 @@ use Rattle.harts.specs.Harts.{hart_of, all_segments, begin}
 use Rattle.harts.specs.Together.{IsProgram, AreApart}
 use Rattle.harts.proofs.Turns.{Stand}
 
--- no file before it has the byte, so what is found is the file's
+-- if no earlier file has the byte, what is found is the file's
 find_mine : (gs : List Program) (i : ℕ) (g : Program) (q : ℕ) → IsProgram gs i g → is_some (find nat_cmp q (cells_of g.segments)) ≡ true → ((j : ℕ) (h : Program) → j ≢ i → IsProgram gs j h → is_some (find nat_cmp q (cells_of h.segments)) ≡ false) → find nat_cmp q (cells_of (all_segments gs)) ≡ find nat_cmp q (cells_of g.segments)
 find_mine [] i g q e some none = absurd (cc)
 find_mine (x ∷ gs) zero g q e some none =

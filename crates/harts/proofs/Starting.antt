@@ -14,12 +14,12 @@ use Rattle.harts.specs.Played.{programs, started}
 use Rattle.harts.proofs.Files.{none_shared}
 use Rattle.harts.proofs.Worlds.{same_counted}
 
--- the harts
+-- the harts that the files start
 harts_started : (files : List ElfFile) → map bare (map started files) ≡ (begin (programs files)).harts
 harts_started [] = refl
 harts_started (f ∷ files) = ap (λ hs. bare (started f) ∷ hs) (harts_started files)
 
--- and their steps
+-- the steps of these harts
 steps_started : (files : List ElfFile) → map (λ h. h.steps) (map started files) ≡ map (λ g. 0) (programs files)
 steps_started [] = refl
 steps_started (f ∷ files) = ap (λ ns. 0 ∷ ns) (steps_started files)

@@ -39,11 +39,11 @@ steps_here o s t n ns e k =
     ∙ ap (λ x. Some (steps_after s.outcome x)) (index_is ns t n k)
 
 module _ (gs : List Program) (cs : ℕ → List Change) where
-  -- the steps that hart i makes alone
+  -- the steps of hart i alone
   alone : List ℕ → ℕ → Program → ℕ
   alone ts i g = own_steps (start g zeros) (cs i) (hart_turns ts i)
 
-  -- a turn more
+  -- the steps of hart i after one more turn of its own
   alone_here : (t : ℕ) (ts : List ℕ) (g : Program) → alone (t ∷ ts) t g ≡ steps_after (own_run cs ts t g).outcome (alone ts t g)
   unfolding alone own_steps
   alone_here t ts g = ap (own_steps (start g zeros) (cs t)) (turns_here t ts)
@@ -52,7 +52,7 @@ module _ (gs : List Program) (cs : ℕ → List Change) where
   unfolding alone
   alone_there t i ts g n = ap (own_steps (start g zeros) (cs i)) (turns_there t i ts n)
 
-  -- a turn more, for each hart
+  -- the steps of each hart after one more turn
   steps_next : (t : ℕ) (ts : List ℕ) → AreAlone gs cs (t ∷ ts) → ((i : ℕ) (g : Program) → IsProgram gs i g → slice_get (steps_after_turns gs cs ts) i ≡ Some (alone ts i g)) → (i : ℕ) (g : Program) → IsProgram gs i g → slice_get (steps_after_turns gs cs (t ∷ ts)) i ≡ Some (alone (t ∷ ts) i g)
   unfolding steps_after_turns
   steps_next t ts a rest i g e = at (t == i) refl where
@@ -63,25 +63,25 @@ module _ (gs : List Program) (cs : ℕ → List Change) where
     at true k = let is = eqb-true t i k in subst (λ j. slice_get (steps_turned (slice_get (world_after gs cs ts).harts t) t (steps_after_turns gs cs ts)) j ≡ Some (alone (t ∷ ts) j g)) is (here g (ap (slice_get gs) is ∙ e))
     at false k = let n = eqb-false t i k in steps_there (slice_get (world_after gs cs ts).harts t) t i (steps_after_turns gs cs ts) n ∙ rest i g e ∙ ap Some (sym (alone_there t i ts g n))
 
-  -- after any schedule
+  -- the steps of each hart after any schedule
   steps_are : (ts : List ℕ) → AreAlone gs cs ts → (i : ℕ) (g : Program) → IsProgram gs i g → slice_get (steps_after_turns gs cs ts) i ≡ Some (alone ts i g)
   unfolding steps_after_turns alone own_steps hart_turns
   steps_are [] a i g e = slice_get-map (λ g. 0) gs i ∙ ap (option_map (λ g. 0)) e
   steps_are (t ∷ ts) a i g e = steps_next t ts a (steps_are ts (earlier gs cs t ts a)) i g e
 
--- each hart stands as it stands alone, and has made as many steps
+-- each hart stands as its run alone does, with as many steps
 pub counted_together : (gs : List Program) (cs : ℕ → List Change) (ts : List ℕ) → AreAlone gs cs ts → (i : ℕ) (g : Program) → IsProgram gs i g → ShowsCounted g i (counted_after gs cs ts) (own_run cs ts i g) (own_steps (start g zeros) (cs i) (hart_turns ts i))
 unfolding alone
 counted_together gs cs ts a i g e = record { shows = together gs cs ts a i g e; steps = steps_are gs cs ts a i g e }
 
 -- ---- without changes
--- a place that is set to what it has
+-- setting a place to its own value changes nothing
 pub set_same : {X : Type 0} (xs : List X) (i : ℕ) (x : X) → slice_get xs i ≡ Some x → slice_set xs i x ≡ xs
 set_same [] i x e = refl
 set_same (y ∷ xs) zero x e = let is : y ≡ x = cc in ap (λ z. z ∷ xs) (sym is)
 set_same (y ∷ xs) (suc i) x e = ap (λ zs. y ∷ zs) (set_same xs i x e)
 
--- nothing is made
+-- a list without changes changes nothing
 made_same : (o : Option Hart) (i n : ℕ) (w : World) → slice_get w.harts i ≡ o → made_of o i (with_changes [] n) w ≡ w
 unfolding with_changes
 made_same None i n w e = refl
@@ -96,13 +96,13 @@ unfolding with_first
 nothing_first zero w = refl
 nothing_first (suc n) w = nothing_due n 0 (with_first (λ i. []) n w) ∙ nothing_first n w
 
--- the world of the turns alone
+-- the world of the turns, without their counts
 pub same_world : (gs : List Program) (ts : List ℕ) → (counted_turns (counted_start gs) ts).world ≡ world_after gs (λ i. []) ts
 unfolding counted_turns world_after
 same_world gs [] = sym (nothing_first (count gs) (begin gs))
 same_world gs (t ∷ ts) = ap (turned t) (same_world gs ts) ∙ sym (nothing_due t (suc (hart_turns ts t)) (turned t (world_after gs (λ i. []) ts)))
 
--- and the steps
+-- the steps of the turns
 same_steps : (gs : List Program) (ts : List ℕ) → (counted_turns (counted_start gs) ts).steps ≡ steps_after_turns gs (λ i. []) ts
 unfolding counted_turns steps_after_turns
 same_steps gs [] = refl
@@ -131,17 +131,17 @@ length_made : (o : Option Hart) (i : ℕ) (f : State → State) (w : World) → 
 length_made None i f w = refl
 length_made (Some h) i f w = length-set w.harts i (hart_of (f (state_of h w.memory)))
 
--- stays in a turn
+-- a turn keeps the number of harts
 pub length_turned : (i : ℕ) (w : World) → length (turned i w).harts ≡ length w.harts
 unfolding on_hart
 length_turned i w = length_made (slice_get w.harts i) i step w
 
--- and in a change
+-- a change keeps the number of harts
 pub length_struck : (i : ℕ) (p : Place) (x : ℕ) (c : Counted) → length (counted_strike i p x c).world.harts ≡ length c.world.harts
 unfolding on_hart
 length_struck i p x c = length_made (slice_get c.world.harts i) i (struck p x) c.world
 
--- and in all turns of a schedule
+-- the turns of a schedule keep the number of harts
 pub length_turns : (c : Counted) (ts : List ℕ) → length (counted_turns c ts).world.harts ≡ length c.world.harts
 unfolding counted_turns
 length_turns c [] = refl

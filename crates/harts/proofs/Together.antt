@@ -1,4 +1,4 @@
--- Each hart stands as it stands alone, after any schedule.
+-- After any schedule each hart stands as its run alone does.
 use Rattle.std.proofs.Common.{◌≡◌, ◌≢◌, ℕ, zero, suc, ◌<◌, Bool, true, false, cond, List, [], ◌∷◌, refl, sym, ap, ◌∙◌, subst, arith}
 use Rattle.std.specs.Prelude.{◌==◌, nat_lt, slice_get}
 use Rattle.std.proofs.lemmas.Bool.{eq-eqb, ne_eqb, eqb-true, eqb-false, lt-ltb}
@@ -17,7 +17,7 @@ use Rattle.harts.proofs.Beside.{does_step, does_changes}
 use Rattle.harts.proofs.Turns.{Stand, stand_as, stand_then}
 use Rattle.harts.proofs.Start.{stand_first}
 
--- ---- what has trapped stays trapped
+-- ---- a trapped state stays trapped
 changed_outcome : (o : Outcome) (c : Change) (s : State) → (changed_as o c s).outcome ≡ s.outcome
 changed_outcome Going c s = struck_outcome c.place c.value s
 changed_outcome o c s = refl
@@ -26,13 +26,13 @@ due_outcome : (b : Bool) (c : Change) (s : State) → (cond b (changed c s) s).o
 due_outcome true c s = changed_outcome s.outcome c s
 due_outcome false c s = refl
 
--- so do all that are due
+-- all due changes of a trapped state leave it trapped
 changes_outcome : (cs : List Change) (n : ℕ) (s : State) → (with_changes cs n s).outcome ≡ s.outcome
 unfolding with_changes
 changes_outcome [] n s = refl
 changes_outcome (c ∷ cs) n s = changes_outcome cs n (cond (c.step == n) (changed c s) s) ∙ due_outcome (c.step == n) c s
 
--- a step from what has trapped has trapped
+-- a step of a trapped state leaves it trapped
 step_at_trapped : (o : Outcome) (s : State) → s.outcome ≡ o → NotTrapped (step_at o s) → is_trapped o ≡ false
 step_at_trapped Going s e n = refl
 step_at_trapped Ended s e n = refl
@@ -43,23 +43,23 @@ before_step : (s : State) → NotTrapped (step s) → NotTrapped s
 unfolding step
 before_step s n = step_at_trapped s.outcome s refl n
 
--- the step of a run that is not trapped afterwards
+-- the last step of a run that is not trapped afterwards
 last_not : (s : State) (cs : List Change) (n : ℕ) → NotTrapped (changed_run s cs (suc n)) → NotTrapped (step (changed_run s cs n))
 unfolding changed_run
 last_not s cs n k = sym (ap is_trapped (changes_outcome cs (suc n) (step (changed_run s cs n)))) ∙ k
 
 -- ---- turns
--- a turn more
+-- one more turn of the hart itself
 pub turns_here : (t : ℕ) (ts : List ℕ) → hart_turns (t ∷ ts) t ≡ suc (hart_turns ts t)
 unfolding hart_turns
 turns_here t ts = ap (λ b. cond b (suc (hart_turns ts t)) (hart_turns ts t)) (eq-eqb t t refl)
 
--- of another hart
+-- one more turn of another hart
 pub turns_there : (t i : ℕ) (ts : List ℕ) → t ≢ i → hart_turns (t ∷ ts) i ≡ hart_turns ts i
 unfolding hart_turns
 turns_there t i ts n = ap (λ b. cond b (suc (hart_turns ts i)) (hart_turns ts i)) (ne_eqb t i n)
 
--- its own run
+-- the hart's own run after one more turn
 run_here : (cs : ℕ → List Change) (t : ℕ) (ts : List ℕ) (g : Program) → own_run cs (t ∷ ts) t g ≡ with_changes (cs t) (suc (hart_turns ts t)) (step (own_run cs ts t g))
 unfolding changed_run
 run_here cs t ts g = ap (changed_run (start g zeros) (cs t)) (turns_here t ts)
@@ -72,7 +72,7 @@ module _ (gs : List Program) (cs : ℕ → List Change) where
   step_not : (t : ℕ) (ts : List ℕ) → AreAlone gs cs (t ∷ ts) → (g : Program) → IsProgram gs t g → NotTrapped (step (own_run cs ts t g))
   step_not t ts a g e = last_not (start g zeros) (cs t) (hart_turns ts t) (subst (λ k. NotTrapped (changed_run (start g zeros) (cs t) k)) (turns_here t ts) (a.no_trap t g e))
 
-  -- a turn less
+  -- the premises hold with one turn fewer
   pub earlier : (t : ℕ) (ts : List ℕ) → AreAlone gs cs (t ∷ ts) → AreAlone gs cs ts
   earlier t ts a = record { files = a.files; words = a.words; no_trap = λ i g e. at (t == i) i g e refl } where
     at : (b : Bool) (i : ℕ) (g : Program) → IsProgram gs i g → (t == i) ≡ b → NotTrapped (own_run cs ts i g)
@@ -80,7 +80,7 @@ module _ (gs : List Program) (cs : ℕ → List Change) where
     at false i g e k = subst NotTrapped (run_there cs t i ts g (eqb-false t i k)) (a.no_trap i g e)
 
   -- ---- before the first turn
-  -- the states when the changes of the harts below n are made
+  -- the states after the changes at step 0 of the harts below n
   firsts : ℕ → ℕ → Program → State
   firsts n i g = cond (nat_lt i n) (with_changes (cs i) 0 (start g zeros)) (start g zeros)
 
@@ -113,7 +113,7 @@ below_count (x ∷ gs) (suc i) g e = let l = below_count gs i g e in omega (arit
 
 module _ (gs : List Program) (cs : ℕ → List Change) where
   -- ---- all turns
-  -- before the first one
+  -- the world before the first turn
   stand_begun : AreAlone gs cs [] → Stand gs (world_after gs cs []) (own_run cs [])
   unfolding world_after changed_run hart_turns firsts
   stand_begun a =
@@ -133,7 +133,7 @@ module _ (gs : List Program) (cs : ℕ → List Change) where
   unfolding stepped
   stepped_there t ts i g n = ap (λ b. cond b (step (own_run cs ts i g)) (own_run cs ts i g)) (ne_eqb t i n)
 
-  -- a turn: the step, then the changes that are due
+  -- a turn: the step, then the due changes
   stand_turned : (t : ℕ) (ts : List ℕ) → AreAlone gs cs (t ∷ ts) → Stand gs (world_after gs cs ts) (own_run cs ts) → Stand gs (world_after gs cs (t ∷ ts)) (own_run cs (t ∷ ts))
   unfolding world_after
   stand_turned t ts a s =
@@ -147,11 +147,11 @@ module _ (gs : List Program) (cs : ℕ → List Change) where
       (λ g e. run_here cs t ts g ∙ ap (with_changes (cs t) (suc (hart_turns ts t))) (sym (stepped_here t ts g)))
       (λ i g e n. run_there cs t i ts g n ∙ sym (stepped_there t ts i g n))
 
-  -- after any schedule
+  -- the world after any schedule
   pub stand_after : (ts : List ℕ) → AreAlone gs cs ts → Stand gs (world_after gs cs ts) (own_run cs ts)
   stand_after [] a = stand_begun a
   stand_after (t ∷ ts) a = stand_turned t ts a (stand_after ts (earlier gs cs t ts a))
 
--- each hart stands as it stands alone
+-- each hart stands as its run alone does
 pub together : (gs : List Program) (cs : ℕ → List Change) (ts : List ℕ) → AreAlone gs cs ts → (i : ℕ) (g : Program) → IsProgram gs i g → Shows g i (world_after gs cs ts) (own_run cs ts i g)
 together gs cs ts a i g e = let s = stand_after gs cs ts a in record { hart = s.harts i g e; bytes = (s.holds i g e).cells }

@@ -1,4 +1,4 @@
--- All harts at once: what is made of one of them changes nothing of the others.
+-- All harts at once: an effect on one of them leaves the others.
 use Rattle.std.proofs.Common.{◌≡◌, ◌≢◌, ℕ, zero, suc, Bool, true, false, List, [], ◌∷◌, Option, Some, None, refl, sym, ap, ◌∙◌, subst}
 use Rattle.std.specs.Prelude.{◌==◌, slice_get, slice_set}
 use Rattle.std.proofs.lemmas.Bool.{eqb-true, eqb-false}
@@ -26,23 +26,23 @@ set_there (z ∷ xs) (suc t) zero x n = refl
 set_there (z ∷ xs) (suc t) (suc i) x n = set_there xs t i x (λ e. n (ap suc e))
 
 -- ---- one hart
--- where the hart is that of a state
+-- the effect on a hart that is that of a state
 pub on_some : (w : World) (t : ℕ) (f : State → State) (s : State) → slice_get w.harts t ≡ Some (hart_of s) → on_hart t f w ≡ record { harts = slice_set w.harts t (hart_of (f (beside w.memory s))); memory = (f (beside w.memory s)).memory }
 unfolding on_hart
 on_some w t f s e = ap (λ o. made_of o t f w) e
 
--- where there is none
+-- the effect if the world lacks the hart
 pub on_none : (w : World) (t : ℕ) (f : State → State) → slice_get w.harts t ≡ None → on_hart t f w ≡ w
 unfolding on_hart
 on_none w t f e = ap (λ o. made_of o t f w) e
 
--- each hart of the world is that of its file's state, and the memory has the file's cells as the state has them
+-- each hart of the world is that of its file's state, and the memory has the file's cells as that state has them
 pub record Stand (gs : List Program) (w : World) (states : ℕ → Program → State) : Type 0 where
   pub harts : (i : ℕ) (g : Program) → IsProgram gs i g → slice_get w.harts i ≡ Some (hart_of (states i g))
   pub none : (i : ℕ) → slice_get gs i ≡ None → slice_get w.harts i ≡ None
   pub holds : (i : ℕ) (g : Program) → IsProgram gs i g → Holds g (states i g).memory w.memory
 
--- the same of equal states
+-- harts stand at equal states
 pub stand_as : (gs : List Program) (w : World) (before after : ℕ → Program → State) → ((i : ℕ) (g : Program) → IsProgram gs i g → after i g ≡ before i g) → Stand gs w before → Stand gs w after
 stand_as gs w before after same s = record {
   harts = λ i g e. s.harts i g e ∙ ap (λ x. Some (hart_of x)) (sym (same i g e));
@@ -51,11 +51,11 @@ stand_as gs w before after same s = record {
 }
 
 module _ (gs : List Program) (files : AreApart gs) (w : World) (before : ℕ → Program → State) (stand : Stand gs w before) (t : ℕ) (f : State → State) (does : (g : Program) (m : Memory) → IsProgram gs t g → Holds g (before t g).memory m → Does g m (f (before t g)) (f (beside m (before t g)))) where
-  -- what is made of the hart
+  -- the effect on the hart
   made : (g : Program) → IsProgram gs t g → Does g w.memory (f (before t g)) (f (beside w.memory (before t g)))
   made g e = does g w.memory e (stand.holds t g e)
 
-  -- the world then
+  -- the world after the effect
   then_world : (g : Program) → IsProgram gs t g → on_hart t f w ≡ record { harts = slice_set w.harts t (hart_of (f (beside w.memory (before t g)))); memory = (f (beside w.memory (before t g))).memory }
   then_world g e = on_some w t f (before t g) (stand.harts t g e)
 
@@ -63,7 +63,7 @@ module _ (gs : List Program) (files : AreApart gs) (w : World) (before : ℕ →
   hart_here : (g : Program) → IsProgram gs t g → slice_get (on_hart t f w).harts t ≡ Some (hart_of (f (before t g)))
   hart_here g e = ap (λ x. slice_get x.harts t) (then_world g e) ∙ set_here w.harts t (hart_of (f (beside w.memory (before t g)))) (hart_of (before t g)) (stand.harts t g e) ∙ ap (λ x. Some (hart_of x)) (made g e).is
 
-  -- its cells
+  -- the cells of the hart itself
   holds_here : (g : Program) → IsProgram gs t g → Holds g (f (before t g)).memory (on_hart t f w).memory
   holds_here g e = subst (λ x. Holds g (f (before t g)).memory x.memory) (sym (then_world g e)) (made g e).holds
 
@@ -72,7 +72,7 @@ module _ (gs : List Program) (files : AreApart gs) (w : World) (before : ℕ →
   hart_there None e i n = ap (λ x. slice_get x.harts i) (on_none w t f (stand.none t e))
   hart_there (Some g) e i n = ap (λ x. slice_get x.harts i) (then_world g e) ∙ set_there w.harts t i (hart_of (f (beside w.memory (before t g)))) n
 
-  -- no cell of another file is one of this
+  -- no cell of another file is one of this file
   not_mine : (b : Bool) (i : ℕ) (g h : Program) → IsProgram gs t g → IsProgram gs i h → t ≢ i → (q : ℕ) → is_mapped h q ≡ true → is_mapped g q ≡ b → is_mapped g q ≡ false
   not_mine true i g h eg eh n q o e = absurd (files.apart t i g h eg eh n q e o)
   not_mine false i g h eg eh n q o e = e
@@ -85,21 +85,21 @@ module _ (gs : List Program) (files : AreApart gs) (w : World) (before : ℕ →
   holds_there : (i : ℕ) (h : Program) → IsProgram gs i h → t ≢ i → Holds h (before i h).memory (on_hart t f w).memory
   holds_there i h eh n = let r = stand.holds i h eh in record { cells = λ q o. cell_there (slice_get gs t) refl i h eh n q o ∙ r.cells q o; mapped = r.mapped }
 
-  -- where there is no hart
+  -- the effect if the world lacks the hart
   none_then : (b : Bool) (i : ℕ) → (t == i) ≡ b → slice_get gs i ≡ None → slice_get (on_hart t f w).harts i ≡ None
   none_then true i e n =
       let none : slice_get w.harts t ≡ None = stand.none t (ap (slice_get gs) (eqb-true t i e) ∙ n) in
       ap (λ x. slice_get x.harts i) (on_none w t f none) ∙ stand.none i n
   none_then false i e n = hart_there (slice_get gs t) refl i (eqb-false t i e) ∙ stand.none i n
 
-  -- all harts, where the states are those before but for that of the hart
+  -- all harts, if only the state of this hart is another
   pub stand_then : (after : ℕ → Program → State) → ((g : Program) → IsProgram gs t g → after t g ≡ f (before t g)) → ((i : ℕ) (g : Program) → IsProgram gs i g → t ≢ i → after i g ≡ before i g) → Stand gs (on_hart t f w) after
   stand_then after here there = record {
     harts = λ i g e. harts (t == i) i g e refl;
     none = λ i e. none_then (t == i) i refl e;
     holds = λ i g e. holds (t == i) i g e refl;
   } where
-    -- the file of the hart
+    -- the file of hart i, if that is this hart
     mine : (i : ℕ) (g : Program) → t ≡ i → IsProgram gs i g → IsProgram gs t g
     mine i g e k = ap (slice_get gs) e ∙ k
 

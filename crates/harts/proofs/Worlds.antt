@@ -65,12 +65,12 @@ struck_is c i p x h e =
     let w = on_some c.world i (struck p x) (state_of h c.world.memory) e in
     record { harts = ap (λ y. y.harts) w; memory = ap (λ y. y.memory) w }
 
--- ---- the same of harts with their steps
--- equal parts
+-- ---- turns and changes of harts with their steps
+-- worlds with equal parts
 pub same_counted : (c d : Counted) → c.world.harts ≡ d.world.harts → c.world.memory ≡ d.world.memory → c.steps ≡ d.steps → c ≡ d
 same_counted c d a b e = λ j. record { world = record { harts = a j; memory = b j }; steps = e j }
 
--- a list of which one hart, and the memory, were left as a change of states says, are the world after it
+-- one hart of a list, and the memory, became as a change of states says: they are the world after it
 module _ (hs : List HartState) (m n : Memory) (i : ℕ) (h k : HartState) (e : slice_get hs i ≡ Some h) where
   hart_there : slice_get (map bare hs) i ≡ Some (bare h)
   hart_there = slice_get-map bare hs i ∙ ap (option_map bare) e
@@ -78,7 +78,7 @@ module _ (hs : List HartState) (m n : Memory) (i : ℕ) (h k : HartState) (e : s
   steps_there : slice_get (map (λ h. h.steps) hs) i ≡ Some h.steps
   steps_there = slice_get-map (λ h. h.steps) hs i ∙ ap (option_map (λ h. h.steps)) e
 
-  -- a turn
+  -- a turn of hart i
   pub turn_counted : with_memory k n ≡ advanced (with_memory h m) → counted (slice_set hs i k) n ≡ counted_turn i (counted hs m)
   unfolding advanced
   turn_counted is =
@@ -89,7 +89,7 @@ module _ (hs : List HartState) (m n : Memory) (i : ℕ) (h k : HartState) (e : s
       (ap (λ p. p.state.memory) is ∙ sym t.memory)
       (map-set (λ h. h.steps) hs i k ∙ ap (λ p. slice_set (map (λ h. h.steps) hs) i p.steps) is ∙ ap (λ x. slice_set (map (λ h. h.steps) hs) i (steps_after h.outcome x)) (sym was) ∙ sym t.steps)
 
-  -- a change
+  -- a change of hart i
   pub strike_counted : (p : Place) (x : ℕ) → with_memory k n ≡ struck_progress p x (with_memory h m) → counted (slice_set hs i k) n ≡ counted_strike i p x (counted hs m)
   strike_counted p x is =
       let t = struck_is (counted hs m) i p x (bare h) hart_there in
@@ -98,7 +98,7 @@ module _ (hs : List HartState) (m n : Memory) (i : ℕ) (h k : HartState) (e : s
       (ap (λ q. q.state.memory) is ∙ sym t.memory)
       (map-set (λ h. h.steps) hs i k ∙ ap (λ q. slice_set (map (λ h. h.steps) hs) i q.steps) is ∙ set_same (map (λ h. h.steps) hs) i h.steps steps_there)
 
-  -- the outcome of the hart then
+  -- the outcome of the hart afterwards
   pub outcome_after : (o : Outcome) → o ≡ k.outcome → option_map (λ h. h.outcome) (slice_get (counted (slice_set hs i k) n).world.harts i) ≡ Some o
   outcome_after o is = ap (option_map (λ h. h.outcome)) (slice_get-map bare (slice_set hs i k) i ∙ ap (option_map bare) (set_here hs i k h e)) ∙ ap Some (sym is)
 

@@ -1,4 +1,4 @@
--- The code of a world, by which a proof tells worlds apart.
+-- The code of a world: different worlds have different codes.
 use Rattle.std.specs.Prelude.{ℕ, List, refl}
 use Rattle.std.specs.Coded.{Coded, code_by, coded×, coded_ℕ, coded_list}
 use Rattle.machine.specs.Memory.{Memory, memory_code}
@@ -15,6 +15,6 @@ hart_code = code_by (List ℕ × (ℕ × (List (ℕ × ℕ) × Outcome))) (coded
 abbrev pub world_code : Coded World
 world_code = code_by (List Hart × Memory) (coded× (coded_list hart_code) memory_code) (λ w. (w.harts, w.memory)) (λ p. record { harts = p.0; memory = p.1 }) (λ _. refl)
 
--- the same with the steps of each hart
+-- a world as its harts, its memory and the steps of each hart
 abbrev pub counted_code : Coded Counted
 counted_code = code_by (World × List ℕ) (coded× world_code (coded_list coded_ℕ)) (λ c. (c.world, c.steps)) (λ p. record { world = p.0; steps = p.1 }) (λ _. refl)

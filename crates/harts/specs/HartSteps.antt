@@ -23,15 +23,15 @@ pub record Counted : Type 0 where
 abbrev pub bare : HartState → Hart
 bare h = record { regs = h.regs; pc = h.pc; ranges = h.ranges; outcome = h.outcome }
 
--- the harts with their steps, and a memory
+-- a world of harts with their steps, and a memory
 abbrev pub counted : List HartState → Memory → Counted
 counted hs m = record { world = record { harts = map bare hs; memory = m }; steps = map (λ h. h.steps) hs }
 
--- before the first turn
+-- the world before the first turn
 abbrev pub counted_start : List Program → Counted
 counted_start gs = record { world = begin gs; steps = map (λ g. 0) gs }
 
--- the steps after a turn of the hart that has the number i
+-- the steps after a turn of hart number i
 abbrev pub steps_turned : Option Hart → ℕ → List ℕ → List ℕ
 steps_turned None i ns = ns
 steps_turned (Some h) i ns = slice_set ns i (steps_after h.outcome (slice_index ns i))
@@ -40,12 +40,12 @@ steps_turned (Some h) i ns = slice_set ns i (steps_after h.outcome (slice_index 
 abbrev pub counted_turn : ℕ → Counted → Counted
 counted_turn i c = record { world = turned i c.world; steps = steps_turned (slice_get c.world.harts i) i c.steps }
 
--- one change of hart i, which is no step
+-- one change of hart i; it does not count as a step
 abbrev pub counted_strike : ℕ → Place → ℕ → Counted → Counted
 counted_strike i p x c = record { world = on_hart i (struck p x) c.world; steps = c.steps }
 
 -- ---- without changes
--- the turns of a schedule
+-- the world after the turns of a schedule
 unfoldable pub counted_turns : Counted → List ℕ → Counted
 counted_turns c [] = c
 counted_turns c (t ∷ ts) = counted_turn t (counted_turns c ts)
@@ -65,7 +65,7 @@ steps_after_turns gs cs (t ∷ ts) = steps_turned (slice_get (world_after gs cs 
 abbrev pub counted_after : List Program → (ℕ → List Change) → List ℕ → Counted
 counted_after gs cs ts = record { world = world_after gs cs ts; steps = steps_after_turns gs cs ts }
 
--- the steps that a run alone makes from states that go on
+-- the steps of a run alone: those from states that go on
 unfoldable pub own_steps : State → List Change → ℕ → ℕ
 own_steps s cs zero = 0
 own_steps s cs (suc n) = steps_after (changed_run s cs n).outcome (own_steps s cs n)
@@ -76,24 +76,24 @@ pub record ShowsCounted (g : Program) (i : ℕ) (c : Counted) (s : State) (n : �
   pub shows : Shows g i c.world s
   pub steps : slice_get c.steps i ≡ Some n
 
--- after any schedule each hart stands as it stands alone, and has made as many steps
+-- after any schedule each hart stands as its run alone does, with as many steps
 abbrev pub CountedTogether : Type 0
 CountedTogether = (gs : List Program) (cs : ℕ → List Change) (ts : List ℕ) → AreAlone gs cs ts → (i : ℕ) (g : Program) → IsProgram gs i g → ShowsCounted g i (counted_after gs cs ts) (own_run cs ts i g) (own_steps (start g zeros) (cs i) (hart_turns ts i))
 
--- without changes each hart stands as a run of its file stands, and has made as many steps
+-- without changes each hart stands as a run of its file does, with as many steps
 abbrev pub TurnsRun : Type 0
 TurnsRun = (gs : List Program) (ts : List ℕ) → AreAlone gs (λ i. []) ts → (i : ℕ) (g : Program) → IsProgram gs i g → ShowsCounted g i (counted_turns (counted_start gs) ts) (progress (begun (start g zeros)) (hart_turns ts i)).state (progress (begun (start g zeros)) (hart_turns ts i)).steps
 
 -- ---- what is promised of a file
--- hart i stands so after turns without changes, in which it made k of them
+-- the state of hart i after turns without changes, k of them its own
 pub record StandsAfter (gs : List Program) (ts : List ℕ) (i k : ℕ) (u : State) : Type 0 where
   pub turns : hart_turns ts i ≡ k
   pub hart : Hart
   pub stands : slice_get (counted_turns (counted_start gs) ts).world.harts i ≡ Some hart
   pub is : u ≡ state_of hart (counted_turns (counted_start gs) ts).world.memory
 
--- where no hart of these turns is trapped when it runs alone, and the file of one is the output of some input, it keeps the input's
--- values and raises no false alarm
+-- if no hart of these turns is trapped when it runs alone, and the file of one is the output of some input, that hart
+-- keeps the input's values and raises no false alarm
 abbrev pub TurnsKeep : List Program → List ℕ → Type 0
 TurnsKeep gs ts =
     ((i : ℕ) (g : Program) → IsProgram gs i g → NotTrapped (own_run (λ i. []) ts i g))

@@ -8,7 +8,7 @@ use Rattle.machine.specs.Program.{Program, LoadSegment, memory_of, start, zeros}
 use Rattle.qed_model.specs.Promise.Changed.{with_changes}
 
 -- ---- harts
--- what a state has besides the memory: the registers, the pc, the code ranges, and the outcome
+-- a state without its memory: the registers, the pc, the code ranges, and the outcome
 pub record Hart : Type 0 where
   pub regs : List ℕ
   pub pc : ℕ
@@ -29,12 +29,12 @@ pub record World : Type 0 where
   pub harts : List Hart
   pub memory : Memory
 
--- a world after something was made of the state of the hart that has the number i
+-- a world after a change of the state of hart number i
 abbrev pub made_of : Option Hart → ℕ → (State → State) → World → World
 made_of None i f w = w
 made_of (Some h) i f w = record { harts = slice_set w.harts i (hart_of (f (state_of h w.memory))); memory = (f (state_of h w.memory)).memory }
 
--- the same, where the hart is one of the world's; where there is none, nothing is made
+-- a world after a change of the state of hart i, if the world has that hart; else the world as it was
 unfoldable pub on_hart : ℕ → (State → State) → World → World
 on_hart i f w = made_of (slice_get w.harts i) i f w
 
@@ -58,11 +58,11 @@ unfoldable pub hart_turns : List ℕ → ℕ → ℕ
 hart_turns [] i = 0
 hart_turns (t ∷ ts) i = cond (t == i) (suc (hart_turns ts i)) (hart_turns ts i)
 
--- the changes of hart i whose step is n are made, in the order of its list; a hart that does not go on is not changed
+-- makes the changes of hart i at step n, in the order of its list; a hart that does not go on is not changed
 abbrev pub with_due : (ℕ → List Change) → ℕ → ℕ → World → World
 with_due cs i n w = on_hart i (with_changes (cs i) n) w
 
--- so are those of step 0 of each hart below n
+-- makes the changes at step 0 of each hart below n
 unfoldable pub with_first : (ℕ → List Change) → ℕ → World → World
 with_first cs zero w = w
 with_first cs (suc n) w = with_due cs n 0 (with_first cs n w)
@@ -72,8 +72,8 @@ unfoldable pub count : List Program → ℕ
 count [] = 0
 count (g ∷ gs) = suc (count gs)
 
--- the world of these files after a schedule, where cs has the changes of each hart: before the first turn and after each turn,
--- those of a hart whose step is the number of its turns so far are made
+-- the world of these files after a schedule; cs has the changes of each hart. Before the first turn, and after each
+-- turn of a hart, its changes whose step is the number of its turns so far are made
 unfoldable pub world_after : List Program → (ℕ → List Change) → List ℕ → World
 world_after gs cs [] = with_first cs (count gs) (begin gs)
 world_after gs cs (t ∷ ts) = with_due cs t (suc (hart_turns ts t)) (turned t (world_after gs cs ts))

@@ -1,4 +1,4 @@
--- The programs of files, and turns that were made before memory was lacking.
+-- The programs of files, and turns made before memory ran out.
 use Rattle.std.specs.Prelude.{◌≡◌, ◌≤◌, ℕ, List, map}
 use Rattle.machine.specs.Program.{Program, start, zeros}
 use Rattle.machine.specs.Loading.{loaded_file, ElfFile}
@@ -14,7 +14,7 @@ programs files = map loaded_file files
 abbrev pub started : ElfFile → HartState
 started file = hart_of (begun (start (loaded_file file) zeros))
 
--- some of n turns were made, by the harts of a list again and again
+-- at most n turns were made, by the harts of a list again and again
 pub record IsPartPlayed (c : Counted) (harts : List ℕ) (n : ℕ) (after : Counted) : Type 0 where
   pub count : ℕ
   pub most : count ≤ n

@@ -1,4 +1,4 @@
--- Files of which segments share a byte, and what is known where none do.
+-- Files whose segments share a byte, and what holds if none do.
 use Rattle.std.specs.Prelude.{ℕ, List, [], ◌∷◌}
 use Rattle.machine.specs.Program.{Program}
 use Rattle.mem_image.specs.Overlap.{files_share, IsPair, IsLeastPair}
@@ -20,7 +20,7 @@ IsLeastShared gs = IsLeastPair (IsShared gs)
 abbrev pub AreUnshared : List Program → Type 0
 AreUnshared gs = (i j : ℕ) → IsShared gs i j → ⊥
 
--- why there is no world: the least pair that shares a byte, or, where none does, a lack of memory
+-- why there cannot be a world: the least pair that shares a byte, or else a lack of memory
 abbrev pub Explains : List Program → HartsError → Type 0
 Explains gs (Shared i j) = IsLeastShared gs i j
 Explains gs Memory = AreUnshared gs
@@ -30,7 +30,7 @@ abbrev pub AreSound : List Program → Type 0
 AreSound [] = Unit {0}
 AreSound (g ∷ gs) = AllFitMemory g.segments × AreApart g.segments × AreSound gs
 
--- where no two files share a byte, they are apart, and all segments together make one memory
+-- files that share no byte: they are apart, and all segments together make one memory
 pub record FilesApart (gs : List Program) : Type 0 where
   pub files : FilesAreApart gs
   pub fit : AllFitMemory (all_segments gs)

@@ -12,11 +12,11 @@ abbrev pub is_fired : Outcome → Bool
 is_fired Fired = true
 is_fired _ = false
 
--- a hart of the world stands so
+-- some hart of the world has an outcome that passes the test
 abbrev pub has_one : (Outcome → Bool) → Counted → Bool
 has_one test c = list_any (λ h. test h.outcome) c.world.harts
 
--- one of a list
+-- some hart of the list has an outcome that passes the test
 abbrev pub stands : (Outcome → Bool) → List HartState → Bool
 stands test hs = list_any (λ h. test h.outcome) hs
 

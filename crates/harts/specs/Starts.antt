@@ -1,4 +1,4 @@
--- What the world is before the first turn, and what a turn and a change make of it, part by part.
+-- The world before the first turn, and the effect of a turn and of a change, part by part.
 use Rattle.std.specs.Prelude.{◌≡◌, ℕ, true, List, slice_get, slice_set, slice_index, Some, is_some}
 use Rattle.std.specs.FinMap.{get}
 use Rattle.machine.specs.declared.place.Place.{Place}
@@ -23,18 +23,18 @@ pub record IsUnion (gs : List Program) : Type 0 where
   pub cells : (i : ℕ) (g : Program) → IsProgram gs i g → (q : ℕ) → is_mapped g q ≡ true → get (begin gs).memory q ≡ get (memory_of g.segments) q
   pub only : (q : ℕ) → is_some (get (begin gs).memory q) ≡ true → IsOfSome gs q
 
--- a turn of a hart that there is
+-- a turn of an existing hart
 pub record IsTurned (c : Counted) (i : ℕ) (h : Hart) : Type 0 where
   pub harts : (counted_turn i c).world.harts ≡ slice_set c.world.harts i (hart_of (step (state_of h c.world.memory)))
   pub memory : (counted_turn i c).world.memory ≡ (step (state_of h c.world.memory)).memory
   pub steps : (counted_turn i c).steps ≡ slice_set c.steps i (steps_after h.outcome (slice_index c.steps i))
 
--- a change of a hart that there is
+-- a change of an existing hart
 pub record IsStruck (c : Counted) (i : ℕ) (p : Place) (x : ℕ) (h : Hart) : Type 0 where
   pub harts : (counted_strike i p x c).world.harts ≡ slice_set c.world.harts i (hart_of (struck p x (state_of h c.world.memory)))
   pub memory : (counted_strike i p x c).world.memory ≡ (struck p x (state_of h c.world.memory)).memory
 
--- of any world
+-- laws of any world
 pub record WorldLaws : Type 0 where
   pub starts : (gs : List Program) → AreApart gs → IsUnion gs
   pub turns : (c : Counted) (i : ℕ) (h : Hart) → slice_get c.world.harts i ≡ Some h → IsTurned c i h

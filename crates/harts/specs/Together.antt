@@ -14,7 +14,7 @@ use Rattle.qed_model.specs.Promise.Caught.{bound_of, AllOpen, Caught}
 use Rattle.harts.specs.Harts.{Hart, World, state_of, hart_of, hart_turns, world_after}
 
 -- ---- what is asked
--- hart i is that of the file g
+-- hart i runs the file g
 abbrev pub IsProgram : List Program → ℕ → Program → Type 0
 IsProgram gs i g = slice_get gs i ≡ Some g
 
@@ -23,12 +23,12 @@ pub record AreApart (gs : List Program) : Type 0 where
   pub low : (i : ℕ) (g : Program) → IsProgram gs i g → (q : ℕ) → is_mapped g q ≡ true → q < 2 ^ 64
   pub apart : (i j : ℕ) (g h : Program) → IsProgram gs i g → IsProgram gs j h → i ≢ j → (q : ℕ) → is_mapped g q ≡ true → is_mapped h q ≡ true → ⊥
 
--- a place is a register, or a word of which the file maps each byte
+-- a place is a register, or a word whose bytes the file maps
 abbrev pub LiesIn : Program → Place → Type 0
 LiesIn g (Reg r) = Unit {0}
 LiesIn g (Word a) = (a < 2 ^ 64) × ((k : ℕ) → k < 8 → is_mapped g (wrap (a + k)) ≡ true)
 
--- so is each place of a list of changes
+-- each place of a list of changes is a register, or a word whose bytes the file maps
 abbrev pub AllLieIn : Program → List Change → Type 0
 AllLieIn g [] = Unit {0}
 AllLieIn g (c ∷ cs) = LiesIn g c.place × AllLieIn g cs
@@ -44,18 +44,17 @@ pub record AreAlone (gs : List Program) (cs : ℕ → List Change) (ts : List �
   pub no_trap : (i : ℕ) (g : Program) → IsProgram gs i g → NotTrapped (own_run cs ts i g)
 
 -- ---- the promise
--- hart i of the world has the registers, the pc, the code ranges and the outcome of the state, and each byte that the file maps
--- is that of the state
+-- hart i has the state's registers, pc, code ranges and outcome, and each byte that the file maps is that of the state
 pub record Shows (g : Program) (i : ℕ) (w : World) (s : State) : Type 0 where
   pub hart : slice_get w.harts i ≡ Some (hart_of s)
   pub bytes : (q : ℕ) → is_mapped g q ≡ true → get w.memory q ≡ get s.memory q
 
--- after any schedule each hart stands as it stands alone
+-- after any schedule each hart stands as its run alone does
 abbrev pub Together : Type 0
 Together = (gs : List Program) (cs : ℕ → List Change) (ts : List ℕ) → AreAlone gs cs ts → (i : ℕ) (g : Program) → IsProgram gs i g → Shows g i (world_after gs cs ts) (own_run cs ts i g)
 
 -- ---- the promises of a hart
--- a state is hart i with the memory, after a schedule in which it made k turns and had these changes; those of the others are any
+-- hart i with the memory, after a schedule with k turns and these changes of its own, and any changes of other harts
 pub record IsSeen (gs : List Program) (i : ℕ) (c : List Change) (k : ℕ) (u : State) : Type 0 where
   pub changes : ℕ → List Change
   pub schedule : List ℕ
@@ -66,20 +65,20 @@ pub record IsSeen (gs : List Program) (i : ℕ) (c : List Change) (k : ℕ) (u :
   pub stands : slice_get (world_after gs changes schedule).harts i ≡ Some hart
   pub is : u ≡ state_of hart (world_after gs changes schedule).memory
 
--- after some turns of the hart, within the bound, it has the input's values, in every schedule
+-- after some turns of its own, within the bound, the hart has the input's values, in every schedule
 pub record KeptInTurns (f : Program) (first bound n : ℕ) (seen : ℕ → State → Type 0) : Type 0 where
   pub turns : ℕ
   pub within : turns ≤ first + (n + 1) * bound
   pub halves : (u : State) → seen turns u → Halves f (after_input f n) u
   pub ends : (u : State) → seen turns u → (u.outcome ≡ Ended) ↔ ((after_input f n).outcome ≡ Ended)
 
--- after m turns of the hart no check has fired and it has not trapped; where it has ended, so has the input, with its values
+-- after m turns no check of the hart has fired, nor has it trapped; if it has ended, so has the input, with its values
 pub record QuietInTurns (f : Program) (m : ℕ) (u : State) : Type 0 where
   pub no_check : u.outcome ≢ Fired
   pub no_trap : NotTrapped u
   pub ended : u.outcome ≡ Ended → ((after_input f m).outcome ≡ Ended) × Halves f (after_input f m) u
 
--- both, as far as the input's run is steady
+-- a hart keeps the input's values and raises no false alarm, while the input's run is steady
 pub record HartKept (f : Program) (reached : ℕ → Bool) (first bound : ℕ) (seen : ℕ → State → Type 0) : Type 0 where
   pub values : (n : ℕ) → Steady f reached n → KeptInTurns f first bound n seen
   pub quiet : (m : ℕ) (u : State) → Steady f reached m → seen m u → QuietInTurns f m u
@@ -89,20 +88,20 @@ pub record SameHart (g : Program) (u v : State) : Type 0 where
   pub hart : hart_of u ≡ hart_of v
   pub bytes : (q : ℕ) → is_mapped g q ≡ true → get u.memory q ≡ get v.memory q
 
--- after some turns, within the bound, the hart has fired, or has ended, or stands as in each schedule in which it has no change
+-- after some turns within the bound the hart has fired, or ended, or stands as in each schedule without changes of it
 pub record SettlesInTurns (g : Program) (t b : ℕ) (changed unchanged : ℕ → State → Type 0) : Type 0 where
   pub turns : ℕ
   pub within : turns ≤ t + b
   pub settled : ((u : State) → changed turns u → u.outcome ≡ Fired) ⊎ (((u : State) → changed turns u → u.outcome ≡ Ended) ⊎ ((t ≤ turns) × ((u v : State) → changed turns u → unchanged turns v → SameHart g u v)))
 
--- for any changes of original places that are open in the hart's run without changes, as far as the input's run is steady
+-- changes of originals that are open in the hart's run without changes settle, while the input's run is steady
 pub record HartCaught (f g : Program) (reached : ℕ → Bool) (spans : List (ℕ × ℕ)) (bounds : Bounds) (seen : List Change → ℕ → State → Type 0) : Type 0 where
   pub settles : (cs : List Change) (b : ℕ) →
       Ordered cs → AllOpen spans (after_output g zeros) cs → bound_of bounds cs ≡ Some b →
       Steady f reached (last_step cs + b) → (after_output g zeros (last_step cs)).outcome ≡ Going →
       SettlesInTurns g (last_step cs) b (seen cs) (seen [])
 
--- where a hart's file is the output of some input, what is promised of the output's runs alone holds of the hart, in its own
+-- if a hart's file is the output of some input, the promises on the output's runs alone hold of the hart, in its own
 -- turns, in every schedule
 pub record PerHart : Type 0 where
   pub kept : (gs : List Program) (i : ℕ) (f g : Program) (reached : ℕ → Bool) (first bound : ℕ) → IsProgram gs i g → Kept f g reached first bound → HartKept f reached first bound (IsSeen gs i [])

@@ -1,17 +1,17 @@
-//! Why there is no world.
+//! Why a world cannot start.
 ghost use Rattle.std.specs.Prelude.{◌≡◌};
 ghost use Rattle.harts.specs.declared.error.HartsError.TheVariants as error;
 
 use std::alloc::AllocError;
 use thiserror::Error;
 
-/// Why harts are not started.
+/// Why harts do not start.
 #[derive(Clone, Copy, Debug, PartialEq, Eq, Error)]
 pub enum HartsError {
     /// PT_LOAD segments of two files share a byte: the files' numbers in the list, from 0, the lower one first.
     #[error("files {0} and {1}")]
     Shared(u64, u64),
-    /// There is no memory.
+    /// Memory ran out.
     #[error("out of memory")]
     Memory,
 }

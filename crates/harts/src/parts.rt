@@ -1,4 +1,4 @@
-//! What a world is made from.
+//! The parts of a world.
 ghost use Rattle.std.specs.Prelude.{◌≡◌, map, IfOk};
 ghost use Rattle.mem_image.specs.Overlap.{segments_of};
 ghost use Rattle.harts.specs.Harts.{all_segments};

@@ -26,21 +26,21 @@ pub fn is_going(outcome: Outcome) -> bool
     matches!(outcome, Outcome::Going)
 }
 
-/// Whether one has fired.
+/// Whether a hart has fired.
 pub fn any_fired(harts: &[Hart]) -> bool
     ensures { result ≡ stands is_fired harts.now }
 {
     harts.iter().any(|hart| is_fired(hart.outcome()))
 }
 
-/// Whether one has trapped.
+/// Whether a hart has trapped.
 pub fn any_trapped(harts: &[Hart]) -> bool
     ensures { result ≡ stands is_trapped harts.now }
 {
     harts.iter().any(|hart| is_trapped(hart.outcome()))
 }
 
-/// Whether one goes on.
+/// Whether a hart goes on.
 pub fn any_going(harts: &[Hart]) -> bool
     ensures { result ≡ stands goes_on harts.now }
 {

@@ -20,7 +20,7 @@ use rv_step::Hart;
 use std::alloc::{AllocError, Global};
 use std::marker::Model;
 
-/// Several harts of RV64IM with one memory. Harts are told by their numbers, from 0.
+/// Several harts of RV64IM with one memory. Harts have numbers, from 0.
 #[derive(Drop)]
 pub struct World {
     harts: Vec<Hart>,
@@ -38,7 +38,7 @@ impl Model for World {
     ghost view = { λ w. counted w.harts.items w.image };
 }
 
-/// The place behind one of `count` places that are taken round and round.
+/// The place behind one of `count` places in a circle.
 fn next_place(place: usize, count: usize) -> usize
     requires { place < count }
     ensures { result ≡ (place + 1) % count }
@@ -47,8 +47,8 @@ fn next_place(place: usize, count: usize) -> usize
 }
 
 impl World {
-    /// A hart for each file, with all registers 0, and one memory with the PT_LOAD segments of all files. `Shared` comes exactly
-    /// where PT_LOAD segments of two files share a byte, with the least such pair.
+    /// A hart for each file, with all registers 0, and one memory with the PT_LOAD segments of all files.
+    /// Fails with `Shared` exactly if PT_LOAD segments of two files share a byte, with the least such pair.
     ///
     /// Of each file, no two PT_LOAD segments share a byte, none ends past 2^64, and each has at most `memory` bytes.
     pub fn start(alloc: Global, files: &[ElfFile]) -> Result<World, HartsError>
@@ -67,21 +67,21 @@ impl World {
         Ok(World { harts, image })
     }
 
-    /// A turn of a hart: one step of it and the memory, as far as it goes on, and how it stands then.
+    /// A turn of a hart: one step of it and the memory, if it goes on. Returns its outcome.
     pub fn turn(&mut self, hart: u64) -> Result<Outcome, AllocError>
         requires { hart < length self.old.world.harts }
         ensures turned { IfOk result (λ _. self.new ≡ counted_turn hart self.old) }
         ensures outcome { IfOk result (λ o. option_map (λ h. h.outcome) (slice_get self.new.world.harts hart) ≡ Some o) }
         ensures count { length self.new.world.harts ≡ length self.old.world.harts }
 
-        // Where there is no memory for a page, nothing changes.
+        // Without memory for a page, nothing changes.
         ensures kept { IfErr result (λ _. self.new ≡ self.old) }
     {
         let outcome = self.harts[hart as usize].step(&mut self.image)?;
         Ok(outcome)
     }
 
-    /// As many turns of one hart as the number says, which are a run of it.
+    /// `n` turns of one hart, which are a run of it.
     fn play_one(&mut self, hart: u64, n: u64) -> Result<(), AllocError>
         requires { hart < length self.old.world.harts }
         ensures played { IfOk result (λ _. self.new ≡ counted_turns self.old (cycled (hart ∷ []) n)) }
@@ -92,15 +92,15 @@ impl World {
         Ok(())
     }
 
-    /// As many turns as the number says, by the harts of the list, again and again. None is made any more where none of these harts goes
-    /// on: they would change nothing.
+    /// `n` turns, by the harts of the list, again and again. Stops early if none of these harts
+    /// goes on: more turns would change nothing.
     pub fn play(&mut self, harts: &[u64], n: u64) -> Result<(), AllocError>
         requires some { 0 < length harts.now }
         requires harts { (k : ℕ) → k < length harts.now → slice_index harts.now k < length self.old.world.harts }
         ensures played { IfOk result (λ _. self.new ≡ counted_turns self.old (cycled harts.now n)) }
         ensures count { length self.new.world.harts ≡ length self.old.world.harts }
 
-        // Where there is no memory for a page, the turns before were made.
+        // Without memory for a page, the turns before were made.
         ensures part { IfErr result (λ _. IsPartPlayed self.old harts.now n self.new) }
     {
         if harts.len() == 1 {
@@ -131,8 +131,8 @@ impl World {
         false
     }
 
-    /// Gives a register of the hart other than x0 another number, or each of eight bytes of the memory that is mapped its byte of
-    /// the number, little endian and whatever its permission.
+    /// Gives a register of the hart other than x0 another number, or each mapped byte of a word of
+    /// the memory its byte of the number, little endian and whatever its permission.
     pub fn strike(&mut self, hart: u64, place: &Place, value: u64) -> Result<(), AllocError>
         requires { hart < length self.old.world.harts }
         ensures struck { IfOk result (λ _. self.new ≡ counted_strike hart place.now value self.old) }
@@ -223,7 +223,7 @@ impl World {
         self.harts[hart as usize].outcome()
     }
 
-    /// The byte at an address, or None where it is not mapped.
+    /// The byte at an address, or None if it is not mapped.
     pub fn byte(&self, address: u64) -> Option<u8>
         ensures { result ≡ option_map (λ c. c.byte) (get self.now.world.memory address) }
     {

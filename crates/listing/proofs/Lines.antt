@@ -1,4 +1,4 @@
--- Lines of words that are listed one after the other.
+-- Lines of words that are listed one after another.
 use Rattle.std.proofs.Common.{◌≡◌, ℕ, zero, suc, ◌+◌, ◌-◌, ◌*◌, ◌<◌, max, List, [], ◌∷◌, ◌++◌, length, get_or, drop, refl, sym, ap, ◌∙◌, arith, append_assoc, add-one, drop-cons}
 use Rattle.tests.specs.declared.range.Span.{Span}
 use Rattle.tests.specs.Ranges.{span, spans}
@@ -9,7 +9,7 @@ lines-append : (w : ℕ → ℕ) (xs ys : List ℕ) → lines w (xs ++ ys) ≡ l
 lines-append w [] ys = refl
 lines-append w (x ∷ xs) ys = ap (λ t. line x (w x) ++ t) (lines-append w xs ys) ∙ sym (append_assoc (line x (w x)) (lines w xs) (lines w ys))
 
--- where two words agree, so do the lines
+-- lines of equal words are equal
 pub same_lines : (w v : ℕ → ℕ) (a n : ℕ) → ((k : ℕ) → k < n → w (a + 4 * k) ≡ v (a + 4 * k)) → lines w (from_on a n) ≡ lines v (from_on a n)
 same_lines w v a zero h = refl
 same_lines w v a (suc n) h =
@@ -18,7 +18,7 @@ same_lines w v a (suc n) h =
     ap (λ x. line a x ++ lines w (from_on (a + 4) n)) here
     ∙ ap (λ t. line a (v a) ++ t) (same_lines w v (a + 4) n (λ k lt. let e : a + 4 * (k + 1) ≡ a + 4 + 4 * k = omega arith in ap w (sym e) ∙ h (k + 1) (omega (arith, lt)) ∙ ap v e))
 
--- ---- one word more
+-- ---- one more word
 pub line_step :
     (w : ℕ → ℕ) (start count number : ℕ) (text more all : List ℕ) → number < count → more ≡ text ++ line (start + 4 * number) (w (start + 4 * number))
     → text ++ lines w (from_on (start + 4 * number) (count - number)) ≡ all
@@ -34,7 +34,7 @@ line_step w start count number text more all lt e h =
     ∙ ap (λ m. text ++ lines w (from_on a m)) (sym n)
     ∙ h
 
--- ---- one range more
+-- ---- one more range
 rest_spans : (rs : List Span) (i : ℕ) (d : Span) → i < length rs → spans (drop i rs) ≡ span (get_or rs i d) ∷ spans (drop (i + 1) rs)
 rest_spans rs i d lt = let split : drop i rs ≡ get_or rs i d ∷ drop (i + 1) rs = rw add-one (drop-cons rs i d lt) in ap spans split
 

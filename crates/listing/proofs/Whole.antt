@@ -151,7 +151,7 @@ any_range a (r ∷ rs) = ap (λ b. in_one a (span r) || b) (any_range a rs)
 same_range : (a : ℕ) (xs ys : List Span) → IsPermutation xs ys → in_range a (spans xs) ≡ in_range a (spans ys)
 same_range a xs ys moved = any_range a xs ∙ list_any-IsPermutation (λ r. in_one a (span r)) xs ys moved ∙ sym (any_range a ys)
 
--- ---- so they are the words of the file
+-- ---- the words of the file
 module _ (f : ElfFile) (xs ys : List Span) (e : spans xs ≡ ranges_of f) (moved : IsPermutation xs ys) (sorted : IsNonDecreasingBy (λ r. r.start) ys) where
   same : (a : ℕ) → in_range a (spans ys) ≡ in_range a (ranges_of f)
   same a = sym (same_range a xs ys moved) ∙ ap (in_range a) e

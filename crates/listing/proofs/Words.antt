@@ -1,4 +1,4 @@
--- The words of a segment are those of the image, where no two segments share a byte.
+-- The words of a segment are those of the image, if no two segments share a byte.
 use Rattle.std.proofs.Common.{◌≡◌, ℕ, ◌+◌, ◌-◌, ◌*◌, ◌/◌, ◌<◌, ◌≤◌, max, true, List, ◌++◌, refl, sym, ap, ◌∙◌, arith}
 use Rattle.std.specs.Prelude.{slice_index, nat_le, Contains}
 use Rattle.std.proofs.lemmas.Bool.{and_parts, leb-true}
@@ -40,7 +40,7 @@ home_lines ss r s start count apart h from to =
     same_lines (segment_word (load_segment s)) (image_word (load_segments ss)) start count
     (λ k lt. word_is (load_segments ss) apart (load_segment s) (start + 4 * k) (among_of (load_segment s) (load_segments ss) h.loaded) (omega (arith, from)) (omega (arith, to, lt)))
 
--- the lines of the words of a range that lies in it
+-- the lines of the words of a range that lies in the segment
 pub range_lines :
     (ss : List Segment) (r : ℕ × ℕ) (s : Segment) (first start end done : ℕ) (text more : List ℕ) → AreApart (load_segments ss) → IsHome ss r s → first ≡ up r.0 → start ≡ max first done
     → end ≡ down r.1 → start < end → more ≡ text ++ lines (segment_word (load_segment s)) (from_on start ((end - start) / 4))

@@ -1,12 +1,12 @@
--- The addresses of the whole words of ranges. A range is by its first address and the one behind its last.
+-- The addresses of the whole words of ranges. A range is a pair: its first address and the one behind its last.
 use Rattle.std.specs.Prelude.{ℕ, zero, suc, ◌+◌, ◌-◌, ◌*◌, ◌/◌, max, List, [], ◌∷◌, ◌++◌}
 
--- so many addresses of words that stand one behind the other
+-- n addresses of words, one behind the other, from a on
 abbrev pub from_on : ℕ → ℕ → List ℕ
 from_on a zero = []
 from_on a (suc n) = a ∷ from_on (a + 4) n
 
--- the multiple of 4 at a number or behind it, and the one at it or before it
+-- the least multiple of 4 from a number on, and the greatest up to it
 abbrev pub up : ℕ → ℕ
 up a = (a + 3) / 4 * 4
 

@@ -5,11 +5,11 @@ use Rattle.machine.specs.Loading.{load_segment, load_segments, Segment}
 use Rattle.machine.specs.Cells.{number_among}
 use Rattle.tests.specs.Words.{word_in}
 
--- a range, by its first address and the one behind its last, lies wholly inside a segment
+-- a range lies wholly inside a segment
 abbrev pub holds_range : LoadSegment → ℕ × ℕ → Bool
 holds_range l r = nat_le l.address r.0 && nat_le r.1 (l.address + l.size)
 
--- it lies inside one of them
+-- a range lies wholly inside one of these segments
 abbrev pub is_held : ℕ × ℕ → List LoadSegment → Bool
 is_held r [] = false
 is_held r (l ∷ ls) = holds_range l r || is_held r ls
@@ -28,6 +28,6 @@ pub record IsHome (ss : List Segment) (r : ℕ × ℕ) (s : Segment) : Type 0 wh
 abbrev pub image_word : List LoadSegment → ℕ → ℕ
 image_word ls a = number_among ls a 4
 
--- the word that a segment has at an address: its bytes from there on, and zeros behind them
+-- the word of a segment at an address: its bytes from there on, and zeros behind them
 abbrev pub segment_word : LoadSegment → ℕ → ℕ
 segment_word l a = word_in l.bytes (a - l.address)

@@ -9,7 +9,7 @@ use Rattle.rv_text.specs.Text.{text_of}
 abbrev pub has_word : ElfFile → ℕ → Bool
 has_word f a = (a % 4 == 0) && in_range a (ranges_of f)
 
--- all such addresses, in ascending order
+-- all addresses of code words, in ascending order
 pub record AreWordAddresses (f : ElfFile) (addresses : List ℕ) : Type 0 where
   pub ascend : AllPairs (λ a b. a < b) addresses
   pub all : (a : ℕ) → Contains addresses a ↔ (has_word f a ≡ true)
@@ -23,7 +23,7 @@ abbrev pub lines : (ℕ → ℕ) → List ℕ → List ℕ
 lines word [] = []
 lines word (a ∷ rest) = line a (word a) ++ lines word rest
 
--- the lines of all code words, which are those of the loaded image
+-- the lines of all code words, as the loaded image has them
 pub record IsListing (f : ElfFile) (text : List ℕ) : Type 0 where
   pub addresses : List ℕ
   pub all : AreWordAddresses f addresses

@@ -1,4 +1,4 @@
--- The words of new code with what each is for: a line for each word, as in a listing, with its role in the place of the word.
+-- The words of new code with their roles: a line for each word, as in a listing, with its role instead of the word.
 use Rattle.std.specs.Prelude.{ℕ, ◌+◌, ◌-◌, ◌/◌, ◌==◌, ◌&&◌, ◌||◌, nat_lt, nat_le, not, Bool, false, if◌then◌else◌, Option, Some, None, List, [], ◌∷◌, ◌++◌, codes, take, drop}
 use Rattle.std.specs.Fmt.{decimal}
 use Rattle.rv_isa.specs.Operation.{pair}
@@ -44,7 +44,7 @@ abbrev pub words_lines : Role → List ℕ → ℕ → List ℕ
 words_lines role [] a = []
 words_lines role (w ∷ ws) a = role_line role a w ++ words_lines role ws (a + 4)
 
--- words in rows of one role, from an address on
+-- words in rows of one role each, from an address on
 abbrev pub role_lines : List RoleRow → List ℕ → ℕ → List ℕ
 role_lines [] words a = []
 role_lines (row ∷ rows) words a = words_lines row.role (take (row.bytes / 4) words) a ++ role_lines rows (drop (row.bytes / 4) words) (a + row.bytes)
@@ -55,12 +55,12 @@ rows_bytes [] = 0
 rows_bytes (row ∷ rows) = row.bytes + rows_bytes rows
 
 -- ---- one word
--- what the byte at an offset into rows is for
+-- the role of the byte at an offset into rows
 abbrev pub role_at : List RoleRow → ℕ → Option Role
 role_at [] offset = None
 role_at (row ∷ rows) offset = if nat_lt offset row.bytes then Some row.role else role_at rows (offset - row.bytes)
 
--- the input address of which a role tells, of a piece its first
+-- the input address that a role names; of a piece its first
 abbrev pub input_address : Role → Option ℕ
 input_address (Entry at) = Some at
 input_address (Original at) = Some at
@@ -74,25 +74,25 @@ input_address (Tick at) = Some at
 input_address (Sign at) = Some at
 input_address _ = None
 
--- a name that tells something: not empty, and not that of a mapping symbol, which begins with `$` (RISC-V ELF psABI, mapping symbols)
+-- a useful name: not empty, and not of a mapping symbol, which begins with `$` (RISC-V ELF psABI, mapping symbols)
 abbrev pub is_telling : List ℕ → Bool
 is_telling [] = false
 is_telling (c ∷ cs) = not (c == 36)
 
--- a symbol that names code and has such a name, at an address or before it
+-- a symbol names code, has a useful name, and stands at an address or before it
 abbrev pub is_before : ℕ → Symbol → Bool
 is_before a s = (is_code_symbol s && nat_le s.value a) && is_telling s.name
 
--- a symbol that is nearer than another, or at the same address, and only the name of the other is not UTF-8
+-- a symbol is nearer than another, or at the same address and only the other's name is not UTF-8
 abbrev pub is_nearer : Symbol → Symbol → Bool
 is_nearer t s = nat_lt t.value s.value || (t.value == s.value && (not (is_utf8 t.name) && is_utf8 s.name))
 
--- of the nearest so far and of another the nearer, the first where both are
+-- the nearer of the nearest so far and another symbol; the first if both are
 abbrev pub nearer : ℕ → Option Symbol → Symbol → Option Symbol
 nearer a None s = if is_before a s then Some s else None
 nearer a (Some t) s = if is_before a s && is_nearer t s then Some s else Some t
 
--- the nearest of symbols, where one is the nearest before them
+-- the nearest of symbols, or `found` if none is nearer
 abbrev pub nearest : ℕ → Option Symbol → List Symbol → Option Symbol
 nearest a found [] = found
 nearest a found (s ∷ ss) = nearest a (nearer a found s) ss
@@ -101,12 +101,12 @@ abbrev pub symbol_line : ℕ → Option Symbol → List ℕ
 symbol_line a None = []
 symbol_line a (Some s) = codes "symbol " ++ (printable MOST_OF_NAME s.name ++ (codes "+0x" ++ (hex_digits 1 (a - s.value) ++ codes "\n")))
 
--- the symbol at the input address of a role or before it, where there is one
+-- the symbol at the input address of a role or before it, if there is one
 abbrev pub symbol_text : Option ℕ → List Symbol → List ℕ
 symbol_text None symbols = []
 symbol_text (Some a) symbols = symbol_line a (nearest a None symbols)
 
--- what a check of a role has found where it fires
+-- what a check of a role has found if it fires
 abbrev pub pair_found : ℕ → Found
 pair_found r = Differ r (pair r)
 
@@ -138,13 +138,13 @@ abbrev pub found_line : Option Found → List ℕ
 found_line None = []
 found_line (Some found) = codes "fired: " ++ (found_text found ++ codes "\n")
 
--- EBREAK, which a check reaches where it fires (RISC-V unprivileged ISA, 2.8)
+-- EBREAK: a check that fires runs it (RISC-V unprivileged ISA, 2.8)
 abbrev pub ebreak : ℕ
 ebreak = 1048691
 
 abbrev pub fired_text : Role → ℕ → List ℕ
 fired_text role w = if w == ebreak then found_line (found_by role) else []
 
--- the line of a word, with its symbol and, of a check, what differed
+-- the line of a word, with its symbol, and for a check with what differed
 abbrev pub word_text : Role → ℕ → ℕ → List Symbol → List ℕ
 word_text role a w symbols = role_line role a w ++ (symbol_text (input_address role) symbols ++ fired_text role w)

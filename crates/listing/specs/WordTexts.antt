@@ -16,7 +16,7 @@ pub record AreWords (words : List ℕ) : Type 0 where
   pub few : length words ≤ 16384
   pub each : All (λ word. word < 2 ^ 32) words
 
--- the file that has the words as its code, no data and no labels
+-- the file with these words as its code, no data and no labels
 abbrev pub words_file : List ℕ → List ℕ
 words_file words = written (file_with words [] [])
 
@@ -25,19 +25,19 @@ words_file words = written (file_with words [] [])
 unfoldable pub words_text : List ℕ → List ℕ
 words_text words = join_with_byte newline (map text_of words)
 
--- there may be a newline at the end, too
+-- the text of the words, with or without a newline at the end
 abbrev pub IsTextOf : List ℕ → List ℕ → Type 0
 IsTextOf words text = (text ≡ words_text words) ⊎ (text ≡ words_text words ++ newline ∷ [])
 
--- such a text assembles to the file of the words
+-- the text of the words assembles to their file
 abbrev pub WordsAssemble : Type 0
 WordsAssemble = (words text : List ℕ) → AreWords words → IsTextOf words text → Assembled text (words_file words)
 
--- its length is within the limit of assemblies
+-- the text of the words is within the limit of assemblies
 abbrev pub TextsAreShort : Type 0
 TextsAreShort = (words text : List ℕ) → AreWords words → IsTextOf words text → length text ≤ 67108864
 
--- so the file is the only answer but Memory
+-- the file of the words is the only answer but Memory
 abbrev pub WordsAreAnswered : Type 0
 WordsAreAnswered =
     (words text : List ℕ) (answer : Result (List ℕ) AsmError) → AreWords words → IsTextOf words text
@@ -47,19 +47,19 @@ WordsAreAnswered =
 abbrev pub has_some : List ℕ → Bool
 has_some text = not (length text == 0)
 
--- what the lines say that are not empty, without comments and the blanks around them
+-- what the non-empty lines say, without comments and the blanks around them
 abbrev pub said_in : List (List ℕ) → List (List ℕ)
 said_in lines = filter has_some (map statement lines)
 
--- these are the texts of the words
+-- the lines say the texts of the words
 pub record SaysWords (text words : List ℕ) : Type 0 where
   pub said : said_in (lines_of text) ≡ map text_of words
 
--- such a text assembles to the file of the words as well
+-- a text that says these texts assembles to the file of the words
 abbrev pub SayingsAssemble : Type 0
 SayingsAssemble = (words text : List ℕ) → AreWords words → SaysWords text words → Assembled text (words_file words)
 
--- so does the listing of a file, to the file of the words that it lists
+-- the listing of a file assembles to the file of the words that it lists
 abbrev pub ListingsAssemble : Type 0
 ListingsAssemble =
     (f : ElfFile) (text : List ℕ) (listing : IsListing f text) → AreWords (map (word_at f) listing.addresses)

@@ -1,4 +1,4 @@
-//! What checks have found where they fire.
+//! What checks have found if they fire.
 ghost use Rattle.std.specs.Prelude.{◌≡◌, Some};
 ghost use Rattle.listing.specs.Roles.{pair_found, found_by, found_text};
 
@@ -8,16 +8,16 @@ use rv_isa::profile::PAIR_DISTANCE;
 use rv_text::Address;
 use std::fmt;
 
-/// What a check has found where it fires.
+/// What a check has found if it fires.
 #[derive(Clone, Copy)]
 pub enum Found {
-    /// The registers of these numbers differ.
+    /// Two registers differ, by their numbers.
     Differ(u8, u8),
     /// The signature is not this input address.
     Signature(u64),
     /// A branch or a jump goes elsewhere by the originals than by the pairs.
     Ways,
-    /// The check of the lean form was called from another block than that of the signature.
+    /// The check of the lean form was called from a block other than the signature's.
     Caller,
     /// Two look-ups of one entry differ.
     LookUps,
@@ -26,7 +26,7 @@ pub enum Found {
 }
 
 impl Found {
-    /// A register and its pair differ; of x14 this is x30.
+    /// A register and its pair differ; the pair of x14 is x30.
     pub fn pair(r: Reg) -> Found
         ensures { result ≡ pair_found r }
     {
@@ -36,7 +36,7 @@ impl Found {
         }
     }
 
-    /// What a check of a role has found; None where none has the role.
+    /// What a check of a role has found; None if no check has the role.
     pub fn by(role: Role) -> Option<Found>
         ensures { result ≡ found_by role }
     {

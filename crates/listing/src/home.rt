@@ -1,4 +1,4 @@
-//! The segments that have the code words.
+//! The segments that hold the code words.
 ghost use Rattle.std.specs.Prelude.{◌≡◌, ◌+◌, ◌≤◌, ◌^◌, true, false, Contains, MatchOption};
 ghost use Rattle.machine.specs.Apart.{AllFitMemory};
 ghost use Rattle.machine.specs.Loading.{load_segment, load_segments};

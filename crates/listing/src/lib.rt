@@ -1,4 +1,4 @@
-//! The code words of a file as text, in the order of their addresses: what the command `list` prints.
+//! The code words of a file as text, in the order of their addresses: the command `list` prints it.
 #![tactic(auto)]
 
 mod found;

@@ -14,7 +14,7 @@ use elf_types::{Bytes, ElfFile, Segment};
 use std::alloc::{AllocError, Global};
 use tests::{Span, code_ranges};
 
-/// Appends the lines of so many words of a segment, from an address on.
+/// Appends the lines of `count` words of a segment, from an address on.
 fn push_words(
     alloc: Global,
     text: &mut Vec<u8>,
@@ -87,7 +87,7 @@ fn lines_of(alloc: Global, segments: &[Segment], ranges: &[Span]) -> Result<Vec<
     Ok(text)
 }
 
-/// The code words of a file, a line each, in the order of their addresses. Two segments of type PT_LOAD share no byte.
+/// The code words of a file, a line each, in the order of their addresses. No two PT_LOAD segments share a byte.
 pub fn list_text(alloc: Global, file: &ElfFile) -> Result<Bytes, AllocError>
     requires fit { AllFitMemory (load_segments file.now.segments) }
     requires apart { AreApart (load_segments file.now.segments) }

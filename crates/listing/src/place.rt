@@ -1,4 +1,4 @@
-//! One word of new code: its line, its symbol, and what differed where it is a check that fired.
+//! One word of new code: its line, its symbol, and if it is a check that fired what differed.
 ghost use Rattle.std.specs.Prelude.{◌≡◌, ◌<◌, ◌++◌, None, IfOk, IsSome, OnOk};
 ghost use Rattle.std.specs.Option.{option_copied};
 ghost use Rattle.std.specs.Str.{is_utf8};
@@ -12,10 +12,10 @@ use std::alloc::{AllocError, Global};
 use std::str;
 use texts::{MOST_OF_NAME, printable};
 
-/// EBREAK, which a check reaches where it fires.
+/// EBREAK: a check that fires runs it.
 const EBREAK: u32 = 0x0010_0073;
 
-/// What the byte at an offset into rows is for; None where they have no more bytes.
+/// The role of the byte at an offset into rows; None behind their last byte.
 pub fn role_at(rows: &[RoleRow], offset: u64) -> Option<Role>
     ensures role { result ≡ role_at_of rows.now offset }
     ensures some { offset < rows_bytes rows.now → IsSome result }
@@ -30,7 +30,7 @@ pub fn role_at(rows: &[RoleRow], offset: u64) -> Option<Role>
     None
 }
 
-/// The input address of which a role tells, of a piece its first.
+/// The input address that a role names; of a piece its first.
 fn input_address(role: Role) -> Option<u64>
     ensures { result ≡ input_address_of role }
 {
@@ -42,14 +42,14 @@ fn input_address(role: Role) -> Option<u64>
     }
 }
 
-/// Whether a name tells something: it is not empty, and not that of a mapping symbol.
+/// Whether a name is useful: not empty, and not that of a mapping symbol.
 fn is_telling(name: &[u8]) -> bool
     ensures { result ≡ is_telling_of name.now }
 {
     name.first().is_some_and(|first| *first != b'$')
 }
 
-/// Whether a symbol names code and has such a name, at an address or before it.
+/// Whether a symbol names code, has a useful name, and stands at an address or before it.
 fn is_before(address: u64, symbol: &Symbol) -> bool
     ensures { result ≡ is_before_of address symbol.now }
 {
@@ -66,8 +66,8 @@ fn is_text(name: &[u8]) -> bool
     }
 }
 
-/// Whether a symbol names an address better than another one before the address: it is nearer, or the other is at the same address and
-/// only the name of the other is not UTF-8.
+/// Whether a symbol names an address better than another symbol before the address: it is nearer,
+/// or both are at one address and only the other's name is not UTF-8.
 fn is_nearer(other: &Symbol, symbol: &Symbol) -> bool
     ensures { result ≡ is_nearer_of other.now symbol.now }
 {
@@ -77,7 +77,7 @@ fn is_nearer(other: &Symbol, symbol: &Symbol) -> bool
             && is_text(symbol.name.as_slice()))
 }
 
-/// Of the nearest symbol so far and of another the nearer, the first where both are.
+/// The nearer of the nearest symbol so far and another; the first if both are.
 fn nearer<'a>(address: u64, found: Option<&'a Symbol>, symbol: &'a Symbol) -> Option<&'a Symbol>
     ensures { option_copied result ≡ nearer_of address (option_copied found.entry) symbol.now }
 {
@@ -94,7 +94,7 @@ fn nearer<'a>(address: u64, found: Option<&'a Symbol>, symbol: &'a Symbol) -> Op
     }
 }
 
-/// The nearest symbol of code at an address or before it. If several are, the first whose name is UTF-8, or else the first.
+/// The nearest code symbol at an address or before it. Of several, the first with a UTF-8 name, or else the first.
 pub fn nearest(address: u64, symbols: &[Symbol]) -> Option<&Symbol>
     ensures { option_copied result ≡ nearest_of address None symbols.now }
 {
@@ -105,7 +105,7 @@ pub fn nearest(address: u64, symbols: &[Symbol]) -> Option<&Symbol>
     found
 }
 
-/// Appends the line of the symbol at the input address of a role or before it, where there is one.
+/// Appends the line of the symbol at the input address of a role or before it, if there is one.
 fn push_symbol(
     alloc: Global,
     text: &mut Vec<u8>,
@@ -128,7 +128,7 @@ fn push_symbol(
     Ok(())
 }
 
-/// Appends what a check has found where it fires, if the word is the EBREAK of one.
+/// If the word is the EBREAK of a check, appends what the check has found if it fires.
 fn push_fired(alloc: Global, text: &mut Vec<u8>, role: Role, word: u32) -> Result<(), AllocError>
     ensures { OnOk result (text.new.items ≡ text.old.items ++ fired_text role word) }
 {
@@ -141,8 +141,8 @@ fn push_fired(alloc: Global, text: &mut Vec<u8>, role: Role, word: u32) -> Resul
     Ok(())
 }
 
-/// The line of a word of new code at an address, with its symbol, from the symbols of the input, and, of a check, what differed
-/// where it fires.
+/// The line of a word of new code at an address, with its symbol, from the symbols of the input.
+/// For a check it adds what differed if it fires.
 pub fn word_text(
     alloc: Global,
     role: Role,

@@ -1,4 +1,4 @@
-//! The words of new code with what each is for.
+//! The words of new code with their roles.
 ghost use Rattle.std.specs.Prelude.{◌≡◌, ◌+◌, ◌*◌, ◌^◌, ◌<◌, ◌++◌, Some, IfOk, OnOk, length};
 ghost use Rattle.listing.specs.Roles.{role_text as role_text_of, role_line, words_lines, role_lines, rows_bytes};
 
@@ -8,7 +8,7 @@ use rv_text::{Address, text_of};
 use std::alloc::{AllocError, Global};
 use std::fmt;
 
-/// What a word is for.
+/// The role of a word, as text.
 #[derive(Clone, Copy)]
 struct RoleText(Role);
 
@@ -60,7 +60,7 @@ pub(crate) fn push_role_line(
     Ok(())
 }
 
-/// Appends the lines of words of one role, of which the first stands at an address.
+/// Appends the lines of words of one role, the first at address `first`.
 fn push_role_words(
     alloc: Global,
     text: &mut Vec<u8>,
@@ -79,7 +79,7 @@ fn push_role_words(
     Ok(())
 }
 
-/// The words of new code that begins at an address, a line each, with what they are for: rows of words of one role.
+/// The words of new code from an address on, a line each, with their roles, from rows of words of one role.
 pub fn role_text(
     alloc: Global,
     rows: &[RoleRow],

@@ -1,4 +1,4 @@
-//! The mirror part of an instruction, of its own kind, or of other kinds where there are such.
+//! The mirror part of an instruction, of its own kind, or of other kinds if there are such words.
 ghost use Rattle.weave_core.specs.Blocks.{FitsPiece};
 
 use crate::rows::put_diverse;
@@ -7,7 +7,7 @@ use passes::{Emit, Pass};
 use rv_isa::Ins;
 use std::alloc::AllocError;
 
-/// The same on the pairs, or where `diverse` is set words of other kinds; what has none is mirrored as it is.
+/// The instruction on the pairs; if `diverse` is set, by words of other kinds if it has any.
 #[derive(Clone, Copy, Drop)]
 pub struct Mirror {
     pub diverse: bool,

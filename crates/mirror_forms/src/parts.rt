@@ -11,7 +11,7 @@ use rv_isa::profile::{SPARE, TEMPORARY};
 use rv_isa::{Ins, Reg, register};
 use std::alloc::AllocError;
 
-/// The register of a place, for an instruction.
+/// The register that a place names, for an instruction.
 fn register_at(ins: &Ins, place: Place) -> Reg
     requires { IsLow ins.now }
     ensures { result ≡ reg_at ins.now place }
@@ -26,7 +26,7 @@ fn register_at(ins: &Ins, place: Place) -> Reg
     }
 }
 
-/// The word, for an instruction.
+/// The item of one part, for an instruction.
 fn word(ins: &Ins, part: &Part) -> Item
     requires { IsLow ins.now }
     ensures { result ≡ Item.Plain (part_word ins.now part.now) }
@@ -36,9 +36,9 @@ fn word(ins: &Ins, part: &Part) -> Item
     plain(part.kind, register_at(ins, part.to), left, right, part.imm)
 }
 
-/// Appends several, one after the other.
+/// Appends the items of several parts.
 ///
-/// Errors: want of memory, and then the first of them are appended.
+/// Errors: want of memory; then a first part is appended.
 #[tactic(auto, using(passes::specs::Emitted::part_none, passes::specs::Emitted::done_none, passes::specs::Emitted::done_more, passes::specs::Emitted::done_part, passes::specs::Emitted::done_all))]
 pub(crate) fn put_parts(ins: &Ins, parts: &[Part], out: &mut Emit) -> Result<(), AllocError>
     requires { IsLow ins.now }

@@ -11,8 +11,8 @@ use qed_model::diverse::{Part, Place};
 use rv_isa::{Ins, Kind};
 use std::alloc::AllocError;
 
-// The rows of `parts_of`, for the macro that is named first. A row has the words of the other mirror part of a kind: `op` is on
-// two registers, `opi` on a register and an immediate. $n is the immediate of the instruction.
+// The rows of `parts_of`, passed to the macro named first. A row has the words of a kind's other mirror part.
+// `op` takes two registers, `opi` a register and an immediate. $n is the instruction's immediate.
 macro_rules! part_rows {
     ($call:ident $n:tt $($given:tt)*) => {
         $call!($($given)*;
@@ -101,17 +101,17 @@ fn lui_high(imm: i64) -> i64
     imm >> 22
 }
 
-/// Its bits 12 to 21.
+/// Bits 12 to 21 of the immediate of LUI, as a signed number.
 fn lui_low(imm: i64) -> i64
     ensures { result ≡ low_of imm }
 {
     ((imm.cast_unsigned() >> 12) % 1024).cast_signed()
 }
 
-/// Appends words of other kinds than the instruction's; what has none is mirrored as it is. Its many arrays want a frame that
-/// mirror parts of the same kinds do without.
+/// Appends words of other kinds than the instruction's; if there are none, the instruction on the
+/// pairs. It is not inlined: its many arrays want a frame that other mirror parts do without.
 ///
-/// Errors: want of memory, and then the first of it is appended.
+/// Errors: want of memory; then a first part is appended.
 #[inline(never)]
 pub(crate) fn put_diverse(ins: &Ins, at: u64, out: &mut Emit) -> Result<(), AllocError>
     requires { FitsPiece ins.now }
@@ -121,7 +121,7 @@ pub(crate) fn put_diverse(ins: &Ins, at: u64, out: &mut Emit) -> Result<(), Allo
     part_rows!(put_row (ins.imm) ins at out)
 }
 
-/// How many words of other kinds the mirror part of a kind has, 0 where it keeps its own.
+/// How many words of other kinds the mirror part of a kind has; 0 if it keeps its own.
 pub fn part_count(kind: Kind) -> u64
     ensures value { (n : ℤ) → result ≡ length (parts_of kind n) }
     ensures bound { result ≤ 7 }

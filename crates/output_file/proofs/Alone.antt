@@ -16,15 +16,15 @@ empty : (bytes : List ℕ) → length bytes ≤ 0 → [] ≡ bytes
 empty [] h = refl
 empty (b ∷ bytes) h = absurd (omega (arith, h))
 
--- no zeros stand before it
+-- no zeros stand before a segment that begins the range
 laid_first : (start address : ℕ) (bytes : List ℕ) → address ≤ start → replicate (address - start - 0) 0 ++ (bytes ++ []) ≡ bytes
 laid_first start address bytes h = let none : address - start - 0 ≡ 0 = omega arith in rw none (append-nil bytes)
 
--- where it has no bytes in the file, the range has none
+-- if the segment has no bytes in the file, the range has none
 laid_alone : (start : ℕ) (s : Segment) (some : Bool) → has_bytes s ≡ some → s.address ≤ start → laid start 0 (map placed_bytes (cond some (s ∷ []) [])) ≡ s.bytes
 laid_alone start s true e h = laid_first start s.address s.bytes h
 laid_alone start s false e h = empty s.bytes (ltb-false _ _ e)
 
--- its bytes are those of the range
+-- the bytes of the segment are those of the range
 pub bytes_alone : (start : ℕ) (s : Segment) → s.address ≤ start → run_bytes start (s ∷ []) ≡ s.bytes
 bytes_alone start s h = laid_alone start s (has_bytes s) refl h

@@ -11,7 +11,7 @@ input r = r.input
 abbrev start : Block → ℕ
 start b = b.start
 
--- some block at an address
+-- an arbitrary block at an address
 block_at : ℕ → Block
 block_at a = record { start = a; body = []; end = Falls; reached = false }
 

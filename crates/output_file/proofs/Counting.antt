@@ -1,4 +1,4 @@
--- Pieces by their lengths, and how many data words there are.
+-- Pieces by their lengths, and the number of data words.
 use Rattle.std.proofs.Common.{◌≡◌, ℕ, zero, suc, ◌+◌, ◌-◌, ◌*◌, ◌/◌, ◌^◌, ◌<◌, ◌≤◌, List, [], ◌∷◌, ◌++◌, length, map, get_or, take, drop, refl, sym, ap, ◌∙◌, subst, append_assoc, add-one, length-drop, drop-cons, arith}
 use Rattle.std.specs.Prelude.{sum}
 use Rattle.std.proofs.lemmas.List.{length-take-le, append-nil, get_or_default, drop_all}
@@ -22,7 +22,7 @@ end_sum : (at : ℕ) (ns : List ℕ) → end_of at ns ≡ at + 4 * sum ns
 end_sum at [] = omega arith
 end_sum at (n ∷ ns) = let h = end_sum (at + 4 * n) ns in let s = sum-cons n ns in omega (arith, h, s)
 
--- it is no lower than where they begin
+-- pieces end no lower than they begin
 pub end_from : (at : ℕ) (ns : List ℕ) → at ≤ end_of at ns
 end_from at ns = let h = end_sum at ns in omega (arith, h)
 
@@ -48,7 +48,7 @@ pub test_spaced : (f : ElfFile) (rs : List Range) → map range_of rs ≡ data_r
 test_spaced f rs e = are_spaced range_of 0 rs (subst (Spaced 0) (sym e) (spaced_data (image_of f) (image_room f.segments)))
 
 -- ---- data words
--- the words of the ranges before number i, which are no more than stand before the end of the last of them
+-- the words of the ranges before number i: at most those before the end of the last of these
 pub record Counted (rs : List Range) (i count : ℕ) : Type 0 where
   pub total : count + word_count (map range_of (drop i rs)) ≡ word_count (map range_of rs)
   pub few : (k : ℕ) (d : Range) → i ≡ k + 1 → 8 * count ≤ (get_or rs k d).end

@@ -1,4 +1,4 @@
--- What is known of a test that was admitted, with its entries.
+-- What holds of an admitted test with its entries.
 use Rattle.std.proofs.Common.{◌≡◌, ℕ, ◌+◌, ◌*◌, ◌^◌, ◌<◌, ◌≤◌, Bool, true, false, cond, List, [], ◌∷◌, ◌++◌, Option, Some, None, refl, sym, ap, ◌∙◌, subst, arith}
 use Rattle.std.specs.Prelude.{slice_get}
 use Rattle.elf_types.specs.declared.file.Symbol.{Symbol}
@@ -53,7 +53,7 @@ module _ (f : ElfFile) (o : Options) (t : Test) (rows : List EntryRow) (e : IsEn
       let P = λ (s : Segment). s.address + s.memory + t.distance ≤ 2 ^ 63 in
       subst (EndLow t.distance) (sym e.test.segments) (every_all P (image_of f) (among_every P (image_of f) low))
 
-  -- of the segments and ranges as slices have them
+  -- the image, for segments and ranges as slices have them
   pub image_at : (segments : List Segment) (span : List Range) → segments ≡ t.segments → span ≡ t.span → IsImage segments span
   image_at segments span a b = subst (IsImage segments) (sym b) (subst (λ ss. IsImage ss t.span) (sym a) image)
 

@@ -1,4 +1,4 @@
--- What stands in lists that ascend, by the place at which a test changes its answer.
+-- Ascending lists, and the place at which a test changes its answer.
 use Rattle.std.proofs.Common.{◌≡◌, ◌⊎◌, inl, inr, ⊎_elim, ℕ, zero, suc, ◌+◌, ◌<◌, ◌≤◌, Bool, true, false, cond, List, [], ◌∷◌, length, get_or, take, drop, Some, None, refl, sym, ap, ◌∙◌, subst, ◌-◌, length-drop, arith}
 use Rattle.std.specs.Prelude.{nat_lt, nat_le, ◌==◌, map, filter, AllPairs}
 use Rattle.std.specs.List.Sorted.{IsNonDecreasingBy, IsPartitionPoint}
@@ -12,7 +12,7 @@ use Rattle.tests.specs.Admission.DataRanges.{range_of, is_in, Segment}
 use Rattle.qed_model.specs.Weave.Placed.{entry_at}
 
 -- ---- filters
--- what fails at the front is left out
+-- a front that fails is left out
 pub filter_skip :
     {A B : Type 0} (f : A → B) (p : B → Bool) (xs : List A) (n : ℕ) → ((k : ℕ) (d : A) → k < n → k < length xs → p (f (get_or xs k d)) ≡ false)
     → filter p (map f xs) ≡ filter p (map f (drop n xs))
@@ -25,7 +25,7 @@ pub filter_none : {A B : Type 0} (f : A → B) (p : B → Bool) (xs : List A) �
 filter_none f p [] h = refl
 filter_none f p (x ∷ xs) h = rw (h 0 x (omega arith)) (filter_none f p xs (λ k d a. h (suc k) d (omega (arith, a))))
 
--- the front that passes is kept
+-- a front that passes is kept
 pub filter_keep :
     {A B : Type 0} (f : A → B) (p : B → Bool) (xs : List A) (n : ℕ) → ((k : ℕ) (d : A) → k < n → k < length xs → p (f (get_or xs k d)) ≡ true)
     → ((k : ℕ) (d : A) → n ≤ k → k < length xs → p (f (get_or xs k d)) ≡ false) → filter p (map f xs) ≡ map f (take n xs)
@@ -71,11 +71,11 @@ module _ (rows : List EntryRow) (ascend : AllPairs (λ r t. r.input < t.input) r
     before : (k : ℕ) (d : EntryRow) → k < place → (get_or rows k d).input < a
     before k d lt = ltb-true (get_or rows k d).input a (point.0 k d (omega arith) lt)
 
-    -- the entry at the place is that of the address
+    -- the entry at the place is the address's
     pub entry_here : (d : EntryRow) → place < length rows → (get_or rows place d).input ≡ a → Some (get_or rows place d).output ≡ entry_at rows a
     entry_here d lt e = sym (found_at rows a place d lt (λ k x l. before k x l) e)
 
-    -- or there is none
+    -- behind all rows nothing is found
     pub entry_past : length rows ≤ place → None ≡ entry_at rows a
     entry_past le = sym (not_found rows a (λ k d lt e. let b = before k d (omega (arith, le, lt)) in absurd (omega (arith, b, e))))
 
@@ -114,7 +114,7 @@ module _ {A : Type 0} (f : A → Segment) (xs : List A) (r : Range) (from : ℕ)
       (λ k d lt l. and_from (nat_le r.start (f (get_or (drop from xs) k d)).address) (nat_lt (f (get_or (drop from xs) k d)).address r.end) (le-leb r.start (f (get_or (drop from xs) k d)).address (starts_in k d l)) (second.0 k d (omega arith) lt))
       (λ k d le l. out_of r (f (get_or (drop from xs) k d)).address (inl (ltb-false (f (get_or (drop from xs) k d)).address r.end (second.1 k d le l)))))
 
-  -- as the slice of a slice has it
+  -- the segments held, as the slice of a slice has them
   pub held_slice :
       (size : ℕ) → IsPartitionPoint (λ x. nat_lt (f x).address r.end ≡ true) (λ x. nat_lt (f x).address r.end ≡ false) (take (length xs - from) (drop from xs)) size
       → map f (take size (take (length xs - from) (drop from xs))) ≡ filter inside (map f xs)

@@ -63,7 +63,7 @@ module _ (image : List Segment) (ranges : List Range) (is : IsImage image ranges
   abbrev wholes : List Segment
   wholes = map (range_segment image) (data_ranges image)
 
-  -- a segment that is no data segment begins in no range
+  -- a segment that is not a data segment begins in no range
   other_out : (a : ℕ) → is_in_any (data_ranges image) a ≡ true → (s : Segment) → Among s others → s.address ≡ a → ⊥
   other_out a i s m e =
       let o = source_of (copied 0) (other_segments image) s m in

@@ -1,4 +1,4 @@
--- The image of a test: its segments share no address, and which of them lie in a data range.
+-- The image of a test: its segments share no address, and some of them lie in a data range.
 use Rattle.std.proofs.Common.{◌≡◌, ⊎_elim, ℕ, suc, ◌+◌, ◌<◌, ◌≤◌, Bool, true, false, cond, ◌&&◌, List, [], ◌∷◌, length, refl, sym, ◌∙◌, subst, arith}
 use Rattle.std.specs.Prelude.{nat_lt}
 use Rattle.std.proofs.lemmas.Bool.{false_from_ne_true}
@@ -19,7 +19,7 @@ use Rattle.tests.specs.Ranges.{AreSpaced}
 use Rattle.output_file.specs.Images.{IsImage}
 
 -- ---- segments apart
--- no address is in both
+-- no address is in both segments
 abbrev pub Clear : Segment → Segment → Type 0
 Clear s t = (q : ℕ) → s.address ≤ q → q < s.address + s.memory → t.address ≤ q → q < t.address + t.memory → ⊥
 
@@ -43,7 +43,7 @@ apart_pairs (s ∷ ss) h = by (is_load s.kind) (nat_lt 0 s.memory) h (λ g. apar
   by true false h rec = rec (apart_tail (load_segment s) (load_segments ss) h)
   by true true h rec = (among_every (Clear s) (image_segments ss) (λ t m. apart_head s t ss h m), rec (apart_tail (load_segment s) (load_segments ss) h))
 
--- so one alone has an address
+-- only one segment has an address
 pairs_alone :
     (ss : List Segment) → Pairs Clear ss → (s t : Segment) (q : ℕ) → Among s ss → Among t ss → s.address ≤ q → q < s.address + s.memory → t.address ≤ q
     → q < t.address + t.memory → s ≡ t

@@ -21,7 +21,7 @@ permuted_among x xs ys p m =
 pub among_permuted : {A : Type 0} (x : A) (xs ys : List A) → IsPermutation xs ys → Among x xs → Among x ys
 among_permuted x xs ys p m = permuted_among x ys xs (IsPermutation-sym xs ys p) m
 
--- ---- how many have an address
+-- ---- how many segments have an address
 abbrev hit : ℕ → Segment → ℕ
 hit a s = cond (s.address == a) 1 0
 
@@ -58,7 +58,7 @@ none_hit a (t ∷ ss) s z m e =
     (λ r. none_hit a ss s (omega (arith, z)) r e)
     m
 
--- each address once at most
+-- each address occurs at most once
 abbrev pub AreOnce : List Segment → Type 0
 AreOnce ss = (a : ℕ) → hits a ss ≤ 1
 
@@ -101,7 +101,7 @@ rise-filter low test (s ∷ ss) r =
     let h = rise-filter (s.address + 1) test ss r.1 in
     elim (test s) as (λ b. Rise low (cond b (s ∷ filter test ss) (filter test ss))) [ true ↦ (r.0, h) | false ↦ rise_lower (s.address + 1) low (filter test ss) (omega (arith, r.0)) h ]
 
--- two lists that rise and have the same members are one
+-- two rising lists with equal members are equal
 pub rise_same :
     (low l : ℕ) (xs ys : List Segment) → Rise low xs → Rise l ys → ((s : Segment) → Among s xs → Among s ys) → ((s : Segment) → Among s ys → Among s xs) → xs ≡ ys
 rise_same low l [] [] a b h g = refl
@@ -120,7 +120,7 @@ rise_same low l (x ∷ xs) (y ∷ ys) a b h g = λ i. head i ∷ rise_same (x.ad
   from : (s : Segment) → Among s ys → Among s xs
   from s m = ⊎_elim (λ e. let p = rise_from (y.address + 1) ys s b.1 m in let q : s.address ≡ x.address = ap (λ t. t.address) e in absurd (omega (arith, p, q, same))) (λ k. k) (g s (inr m))
 
--- what is inserted in order
+-- insertion in order keeps a list rising
 rise-insert : (low : ℕ) (s : Segment) (ts : List Segment) → Rise low ts → low ≤ s.address → ((t : Segment) → Among t ts → s.address ≡ t.address → ⊥) → Rise low (insert_segment s ts)
 rise-insert low s [] r le ne = (le, tt)
 rise-insert low s (t ∷ ts) r le ne = by (nat_le s.address t.address) refl (λ g. rise-insert (t.address + 1) s ts r.1 g (λ u m. ne u (inr m))) where
@@ -132,7 +132,7 @@ rise-order : (ss : List Segment) → AreOnce ss → Rise 0 (in_order ss)
 rise-order [] h = tt
 rise-order (s ∷ ss) h = rise-insert 0 s (in_order ss) (rise-order ss (once_tail s ss h)) (omega arith) (λ t m. once_head s ss h t (ordered_among ss t m))
 
--- what is sorted
+-- a sorted list rises
 pub sorted_rises : (low : ℕ) (ss : List Segment) → IsNonDecreasingBy (λ s. s.address) ss → AreOnce ss → ((s : Segment) → Among s ss → low ≤ s.address) → Rise low ss
 sorted_rises low [] up h le = tt
 sorted_rises low (s ∷ []) up h le = (le s (inl refl), tt)
@@ -153,7 +153,7 @@ order_is xs ys p up h =
     (λ s m. among-ordered xs s (permuted_among s xs ys p m))
     (λ s m. among_permuted s xs ys p (ordered_among xs s m))
 
--- sorted by an address of something else
+-- a list sorted by an address of something else
 pub non_decreasing-map : {A : Type 0} (f : A → Segment) (xs : List A) → IsNonDecreasingBy (λ x. (f x).address) xs → IsNonDecreasingBy (λ s. s.address) (map f xs)
 non_decreasing-map f [] up i j d a b = absurd (omega (arith, b))
 non_decreasing-map f (x ∷ xs) up i j d a b =

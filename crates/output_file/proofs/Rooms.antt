@@ -16,7 +16,7 @@ room-append : (xs ys : List Symbol) → symbols_room (xs ++ ys) ≡ symbols_room
 room-append [] ys = omega arith
 room-append (x ∷ xs) ys = let all = room-cons x (xs ++ ys) in let first = room-cons x xs in let rest = room-append xs ys in omega (arith, all, first, rest)
 
--- both groups of renamed symbols have the room of all, where names stay
+-- both groups of renamed symbols take the room of all, if names stay
 module _ (f : Symbol → Symbol) (kept local : Symbol → Bool) (same : (s : Symbol) → (f s).name ≡ s.name) where
   abbrev locals : List Symbol → List Symbol
   locals ss = map f (filter (λ s. kept s && local s) ss)

@@ -1,4 +1,4 @@
--- The segments of a data range, laid one behind the other, are the range as one segment.
+-- The segments of a data range, laid one behind another, are the range as one segment.
 use Rattle.std.proofs.Common.{◌≡◌, ◌⊎◌, inl, inr, ⊎_elim, ℕ, ◌+◌, ◌-◌, ◌<◌, ◌≤◌, Bool, true, false, cond, ◌&&◌, List, [], ◌∷◌, ◌++◌, length, map, replicate, Option, Some, None, refl, sym, ap, ◌∙◌, subst, arith, length-append}
 use Rattle.std.specs.Prelude.{nat_lt, nat_le, filter, slice_index}
 use Rattle.std.specs.List.{list_any}
@@ -45,7 +45,7 @@ byte_low : (at q : ℕ) (ss : List Segment) → Follow at ss → q < at → file
 byte_low at q [] f h = refl
 byte_low at q (s ∷ ss) f h = rw (filed_not s q (inl (omega (arith, h, f.0)))) (byte_low (s.address + length s.bytes) q ss f.1 (omega (arith, h, f.0)))
 
--- the pieces of what is laid: zeros, the bytes of the first, and the rest
+-- the parts of laid bytes: zeros, the bytes of the first segment, and the rest
 zeros_then : (n : ℕ) (xs ys : List ℕ) (k : ℕ) → k < n → slice_index (replicate n 0 ++ (xs ++ ys)) k ≡ 0
 zeros_then n xs ys k h = get_or_append_left (replicate n 0) (xs ++ ys) 0 k (rw length-replicate h) ∙ get_or-replicate n k 0 0 h
 
@@ -90,7 +90,7 @@ laid_byte start n q (s ∷ ss) f h = ⊎_elim before (λ a. ⊎_elim (inside a) 
       ∙ rec (omega (arith, f.0, l))
       ∙ sym (rw (filed_not s q (inr l)) refl)
 
--- how many they are
+-- the number of laid bytes
 laid_length : (start n : ℕ) (s : Segment) (ss : List Segment) → length (stands start n (s ∷ ss)) ≡ s.address - start - n + (length s.bytes + length (stands start (n + (s.address - start - n) + length s.bytes) ss))
 laid_length start n s ss =
     let rest = stands start (n + (s.address - start - n) + length s.bytes) ss in
@@ -129,7 +129,7 @@ record Holder (ss : List Segment) (q : ℕ) : Type 0 where
   holds : filed segment q ≡ true
   byte : file_byte ss q ≡ slice_index segment.bytes (q - segment.address)
 
--- no segment has it
+-- no segment has the address
 record IsFree (ss : List Segment) (q : ℕ) : Type 0 where
   none : (s : Segment) → Among s ss → filed s q ≡ false
   zero_byte : file_byte ss q ≡ 0
@@ -177,11 +177,11 @@ module _ (image : List Segment) (ranges : List Range) (is : IsImage image ranges
   flags_same : range_flags run ≡ range_flags (data_in image r)
   flags_same = ap (λ b. cond b 6 4) (any_same is_written run (data_in image r) run_data data_run)
 
-  -- ---- they follow one another
+  -- ---- the segments follow one another
   some : r.0 < r.1
   some = (spaced_from 0 (data_ranges image) r (spaced image ranges is) member).1
 
-  -- the next begins behind the end
+  -- the next segment begins behind the end
   next_behind : (s t : Segment) → Among s image → Among t image → s.address < t.address → s.address + s.memory ≤ t.address
   next_behind s t m k lt =
       ⊎_elim
@@ -233,7 +233,7 @@ module _ (image : List Segment) (ranges : List Range) (is : IsImage image ranges
       omega (arith, e.1, s))
 
   -- ---- the bytes
-  -- the image has what each of its segments has
+  -- the image has the bytes of each of its segments
   image_cell : (s : Segment) (q : ℕ) → Among s image → s.address ≤ q → q < s.address + s.memory → cell_among (load_segments image) q ≡ Some (cell_at (load_segment s) q)
   image_cell s q m a b =
       let p = parts image ranges is s m in

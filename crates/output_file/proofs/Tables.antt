@@ -1,4 +1,4 @@
--- The words of entries that are laid one behind the other are the table.
+-- The words of entries, laid one behind another, are the table.
 use Rattle.std.proofs.Common.{◌≡◌, ℕ, zero, suc, ◌+◌, ◌-◌, ◌*◌, ◌/◌, ◌%◌, ◌<◌, ◌≤◌, true, false, List, [], ◌∷◌, ◌++◌, length, map, replicate, None, refl, sym, ap, ◌∙◌, subst, append_assoc, arith}
 use Rattle.std.specs.Prelude.{◌==◌, All, AllPairs}
 use Rattle.std.proofs.lemmas.Bool.{eq-eqb}

@@ -1,4 +1,4 @@
--- The bytes of words, as the writer of words gives them, and batch by batch.
+-- The bytes of words, as the writer of words makes them, and batch by batch.
 use Rattle.std.proofs.Common.{◌≡◌, ℕ, List, [], ◌∷◌, ◌++◌, take, drop, refl, ap, ◌∙◌, append_assoc, sym}
 use Rattle.std.proofs.lemmas.List.{take-append-drop}
 use Rattle.std.specs.List.{flat_map}
@@ -16,7 +16,7 @@ bytes_behind : (words more : List ℕ) → bytes_of (words ++ more) ≡ bytes_of
 bytes_behind [] more = refl
 bytes_behind (w ∷ words) more = ap (λ (rest : List ℕ). number_bytes 4 w ++ rest) (bytes_behind words more) ∙ sym (append_assoc (number_bytes 4 w) (bytes_of words) (bytes_of more))
 
--- with the bytes of the first n words, those so far and those of the rest still make the whole
+-- with the bytes of the first n words, the bytes so far and those of the rest are still all
 pub next_batch : (n : ℕ) (old new words whole : List ℕ) → old ++ bytes_of words ≡ whole → new ≡ old ++ bytes_of (take n words) → new ++ bytes_of (drop n words) ≡ whole
 next_batch n old new words whole so_far next =
     ap (λ (bytes : List ℕ). bytes ++ bytes_of (drop n words)) next

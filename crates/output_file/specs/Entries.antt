@@ -11,16 +11,16 @@ pub record AreEntries (high : ℕ) (rows : List EntryRow) : Type 0 where
   pub aligned : All (λ r. r.input % 4 ≡ 0) rows
   pub below : All (λ r. r.input < high) rows
 
--- how far an entry is behind the place of its input address in the table
+-- how far an entry is behind its input address's place in the table
 abbrev pub entry_distance : ℕ → EntryRow → ℕ
 entry_distance d row = row.output - (row.input + 2 * d)
 
--- the bytes of that word, with the input address
+-- the bytes of an entry's word in the table, with the input address
 abbrev pub entry_word : ℕ → EntryRow → ℕ × List ℕ
 entry_word d row = (row.input, number_bytes 4 (entry_distance d row))
 
 -- ---- entries of blocks
--- rows that have the first addresses of blocks are entries, where those ascend and are multiples of 4 below an address
+-- the first addresses of blocks make entries if they ascend and are multiples of 4 below an address
 abbrev pub EntriesOfBlocks : Type 0
 EntriesOfBlocks =
     (rows : List EntryRow) (blocks : List Block) (high : ℕ) → map (λ r. r.input) rows ≡ map (λ b. b.start) blocks → AllPairs (λ b c. b.start < c.start) blocks

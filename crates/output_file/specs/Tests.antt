@@ -9,8 +9,8 @@ use Rattle.tests.specs.Admission.Refusals.{IsAdmitted}
 use Rattle.tests.specs.Admission.Test.{IsTestOf}
 use Rattle.output_file.specs.Entries.{AreEntries}
 
--- the segments of the file fit into memory and share no byte; it is admitted with the options, as this test; and these are entries
--- of addresses in its original half
+-- the file's segments fit into memory and share no byte; it is admitted with the options, as this test; and the rows
+-- are entries of addresses in its original half
 pub record IsEntered (f : ElfFile) (o : Options) (t : Test) (rows : List EntryRow) : Type 0 where
   pub fit : AllFitMemory (loads_of f)
   pub apart : AreApart (loads_of f)

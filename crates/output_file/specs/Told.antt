@@ -1,4 +1,4 @@
--- What is told of an output.
+-- The plan of an output.
 use Rattle.std.specs.Prelude.{◌≡◌, ℕ, ◌+◌, ◌*◌, ◌^◌, List, [], ◌∷◌}
 use Rattle.elf_types.specs.declared.file.ElfFile.{ElfFile}
 use Rattle.qed_model.specs.declared.bounds.Bounds.{Bounds}
@@ -11,7 +11,7 @@ use Rattle.block_split.specs.declared.block.CodeBlock.{CodeBlock}
 use Rattle.block_split.specs.Listed.{IsWithin}
 use Rattle.qed_model.specs.Weave.Woven.{NewCode, size_of_code, entries_in}
 
--- these are the test, the size of its new code, the entries and the bounds
+-- the parts of a plan: the test, the size of its new code, the entries and the bounds
 pub record AreParts (c : NewCode) (f : ElfFile) (o : Options) (t : Test) (entries : List EntryRow) (code_bytes : ℕ) (bounds : Bounds) : Type 0 where
   pub test : IsTestOf f o t
   pub code_bytes_is : code_bytes ≡ size_of_code c
@@ -23,12 +23,12 @@ abbrev pub IsWhole : CodeBlock → Type 0
 IsWhole b = IsWithin (2 ^ 63) b
 
 -- ---- pieces of known lengths that stand one behind the other
--- the row of each
+-- the row of each piece
 abbrev pub rows_of : ℕ → ℕ → List ℕ → List PieceRow
 rows_of entry at [] = []
 rows_of entry at (n ∷ ns) = record { entry = entry; first = at; length = n } ∷ rows_of entry (at + 4 * n) ns
 
--- where the last one ends
+-- where the last piece ends
 abbrev pub end_of : ℕ → List ℕ → ℕ
 end_of at [] = at
 end_of at (n ∷ ns) = end_of (at + 4 * n) ns

@@ -1,4 +1,4 @@
-//! Bytes that stand at places, with zeros between them.
+//! Bytes at places, with zeros between them.
 ghost use Rattle.std.specs.Prelude.{◌≡◌, ◌≤◌, ◌++◌, IfOk, OnOk, length, replicate};
 ghost use Rattle.machine.specs.Numbers.{bytes_of as bytes_of_words};
 
@@ -6,7 +6,7 @@ use byteorder::{ByteOrder, LittleEndian};
 use elf_write::push_zeros;
 use std::alloc::{AllocError, Global};
 
-/// How many words are made bytes at once.
+/// How many words are turned into bytes at once.
 const BATCH: usize = 64;
 
 /// Appends the bytes of at most 64 words.
@@ -21,8 +21,8 @@ fn push_batch(bytes: &mut Vec<u8>, words: &[u32]) -> Result<(), AllocError>
     Ok(())
 }
 
-/// The bytes of 32-bit words, each the lowest first. They are made in batches, since to append takes much longer than to make
-/// those of a word.
+/// The bytes of 32-bit words, each the lowest first. They are made in batches, since appending
+/// takes much longer than making the bytes of a word.
 pub fn bytes_of(alloc: Global, words: &[u32]) -> Result<Vec<u8>, AllocError>
     ensures { IfOk result (λ bytes. bytes.items ≡ bytes_of_words words.now) }
 {
@@ -37,7 +37,7 @@ pub fn bytes_of(alloc: Global, words: &[u32]) -> Result<Vec<u8>, AllocError>
     Ok(bytes)
 }
 
-/// Appends so many zeros, and more bytes behind them.
+/// Appends `zeros` zeros, and more bytes behind them.
 pub fn push_behind(bytes: &mut Vec<u8>, zeros: u64, more: &[u8]) -> Result<(), AllocError>
     ensures { OnOk result (bytes.new.items ≡ bytes.old.items ++ (replicate zeros 0 ++ more.now)) }
 {

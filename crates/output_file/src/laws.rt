@@ -1,4 +1,4 @@
-//! What holds of the entries of blocks.
+//! Laws on the entries of blocks.
 ghost use Rattle.output_file.specs.Entries.{EntriesOfBlocks};
 
 /// Rows that have the first addresses of blocks in ascending order are entries.

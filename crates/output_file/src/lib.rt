@@ -1,4 +1,4 @@
-//! The output file of a test, before it is written, and what is told of it.
+//! The output file of a test, before it is written, and its plan.
 #![tactic(auto)]
 
 mod bytes;

@@ -28,7 +28,7 @@ fn code_segment(alloc: Global, address: u64, code: &[u32]) -> Result<Segment, Al
     Ok(whole_segment(PF_R | PF_X, address, Bytes::of(bytes)))
 }
 
-/// The table, where there is one.
+/// The table, if there is one.
 fn table_part(
     alloc: Global,
     table: bool,
@@ -44,7 +44,7 @@ fn table_part(
     Ok(Some(segment))
 }
 
-/// Appends the table, where there is one, and the new code.
+/// Appends the table, if there is one, and the new code.
 fn push_parts(
     segments: &mut Vec<Segment>,
     table: Option<Segment>,
@@ -73,11 +73,11 @@ pub struct Code<'a> {
     pub words: &'a [u32],
     pub bytes: u64,
     pub entries: &'a [EntryRow],
-    /// Whether the output has a table, as `has_table` tells of the blocks.
+    /// Whether the output has a table, as `has_table` answers for the blocks.
     pub table: bool,
 }
 
-/// The output of a file that was admitted as a test, with this new code, but without its symbols.
+/// The output of a file that was admitted as a test, with this new code, but without symbols.
 pub fn bare_file(
     alloc: Global,
     file: &ElfFile,

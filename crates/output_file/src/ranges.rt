@@ -40,7 +40,7 @@ fn range_flags(held: &[&Segment]) -> u32
     PF_R
 }
 
-/// The bytes from an address on, of segments in ascending order, up to the last that one of them has in the file.
+/// The bytes of ascending segments from an address on, up to the last byte that one of them has in the file.
 fn laid_bytes(alloc: Global, start: u64, held: &[&Segment]) -> Result<Vec<u8>, AllocError>
     ensures { IfOk result (λ bytes. bytes.items ≡ run_bytes start (map (λ s. s.now) held.now)) }
 {
@@ -56,7 +56,7 @@ fn laid_bytes(alloc: Global, start: u64, held: &[&Segment]) -> Result<Vec<u8>, A
     Ok(bytes)
 }
 
-/// The same. A segment that stands alone shares its bytes.
+/// As `laid_bytes`, but a segment that stands alone shares its bytes.
 #[tactic(auto, using(crate::proofs::Alone::alone_in, crate::proofs::Alone::bytes_alone))]
 fn range_bytes(alloc: Global, start: u64, held: &[&Segment]) -> Result<Bytes, AllocError>
     ensures { IfOk result (λ bytes. bytes ≡ run_bytes start (map (λ s. s.now) held.now)) }
@@ -82,7 +82,7 @@ fn held_in<'a, 'b>(sorted: &'a [&'b Segment], range: Range) -> &'a [&'b Segment]
     &rest[..size]
 }
 
-/// A data range as one segment, where the segments of the image ascend.
+/// A data range as one segment; the segments of the image ascend.
 fn range_segment(alloc: Global, sorted: &[&Segment], range: Range) -> Result<Segment, AllocError>
     requires { IsNonDecreasingBy (λ s. s.now.address) sorted.now }
     ensures { IfOk result (λ s. s ≡ run_segment (map (λ s. s.now) sorted.now) (range_of range)) }

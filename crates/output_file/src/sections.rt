@@ -33,7 +33,7 @@ fn map_bytes(alloc: Global, entries: &[EntryRow]) -> Result<Vec<u8>, AllocError>
     Ok(bytes)
 }
 
-/// The section that tells where the entries are.
+/// The section with the places of the entries.
 fn map_section(alloc: Global, entries: &[EntryRow]) -> Result<OutSection, AllocError>
     ensures { IfOk result (λ s. s ≡ map_section_of entries.now) }
 {
@@ -46,7 +46,7 @@ fn map_section(alloc: Global, entries: &[EntryRow]) -> Result<OutSection, AllocE
     })
 }
 
-/// The sections: over the new code, over the table where there is one, and the map.
+/// The sections: over the new code, over the table if there is one, and the map.
 pub fn sections(
     alloc: Global,
     code: &Segment,

@@ -8,7 +8,7 @@ use elf_types::abi::{PF_X, PT_LOAD};
 use elf_types::{Bytes, Segment};
 use std::alloc::AllocError;
 
-/// The address so far behind another. Addresses go round at 2^64.
+/// The address at a distance behind another. Addresses wrap at 2^64.
 pub fn moved(address: u64, distance: u64) -> u64
     ensures { address + distance < 2 ^ 64 → result ≡ address + distance }
 {

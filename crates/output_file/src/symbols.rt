@@ -10,15 +10,15 @@ use elf_types::abi::{SHN_ABS, STT_FUNC};
 use qed_model::EntryRow;
 use std::alloc::{AllocError, Global};
 
-/// Whether a symbol is named and defined, and is of type `STT_NOTYPE`, `STT_OBJECT` or `STT_FUNC`, the types up to the
-/// last of them.
+/// Whether a symbol is named and defined, and its type is `STT_NOTYPE`, `STT_OBJECT` or `STT_FUNC`:
+/// at most the last of them.
 fn is_kept(symbol: &Symbol) -> bool
     ensures { result ≡ is_kept_of symbol.now }
 {
     symbol.name.as_slice().len() > 0 && symbol.is_defined() && symbol.kind <= STT_FUNC
 }
 
-/// The bytes that the symbols of an output take in its file, with their names, where the input has these symbols.
+/// The bytes that an output's symbols take in its file, with their names; `symbols` are those of its input.
 #[tactic(auto, using(crate::proofs::Rooms::out_room))]
 pub fn symbols_size(symbols: &[Symbol]) -> u128
     ensures { (rows : List EntryRow) → result ≡ symbols_room (out_symbols rows symbols.now) }
@@ -39,15 +39,15 @@ fn kept_size(symbols: &[Symbol]) -> u128
     size
 }
 
-/// Whether a symbol is in the group of the local ones, or in that of the others.
+/// Whether a symbol is kept, and is local if `local` is set, else not.
 fn is_in_group(local: bool, symbol: &Symbol) -> bool
     ensures { result ≡ (is_kept_of symbol.now && (if local then is_local_of symbol.now else not (is_local_of symbol.now))) }
 {
     is_kept(symbol) && symbol.is_local() == local
 }
 
-/// The new address of an input address that has an entry. The row behind the one that was found last is looked at first,
-/// since symbols often stand in the order of their addresses. Nothing rests on it.
+/// The new address of an input address that has an entry. The row behind the last find comes first,
+/// since symbols often stand in the order of their addresses. Nothing depends on that.
 #[tactic(auto, using(crate::proofs::Finding::rows_ascend, crate::proofs::Finding::entry_near, crate::proofs::Finding::entry_here, crate::proofs::Finding::entry_past, crate::proofs::Finding::entry_other))]
 fn entry_at(entries: &[EntryRow], next: &mut usize, address: u64) -> Option<u64>
     ensures { EntriesAscend entries.now → result ≡ entry_at_of entries.now address }
@@ -80,7 +80,7 @@ fn valued(symbol: &Symbol, value: u64, size: u64) -> Result<Symbol, AllocError>
     })
 }
 
-/// The symbol at its new address, where it has one.
+/// The symbol at its new address, if it has one.
 fn out_symbol(entries: &[EntryRow], next: &mut usize, symbol: &Symbol) -> Result<Symbol, AllocError>
     ensures { IfOk result (λ s. EntriesAscend entries.now → s ≡ out_symbol_of entries.now symbol.now) }
 {

@@ -15,7 +15,7 @@ use qed_model::EntryRow;
 use rv_isa::Ins;
 use std::alloc::{AllocError, Global};
 
-/// Whether a block that ends so looks its target up in the table.
+/// Whether a block with this end looks its target up in the table.
 fn looks_up(end: &Option<Ins>) -> bool
     ensures { result ≡ looks_up_of (end_of end.now) }
 {
@@ -25,7 +25,7 @@ fn looks_up(end: &Option<Ins>) -> bool
     }
 }
 
-/// Whether the output has a table: where a block ends with a JALR.
+/// Whether the output has a table: if a block ends with a JALR.
 pub fn has_table(blocks: &[CodeBlock]) -> bool
     ensures { result ≡ has_table_of (map block_of blocks.now) }
 {
@@ -37,7 +37,7 @@ pub fn has_table(blocks: &[CodeBlock]) -> bool
     false
 }
 
-/// The input address of the first entry, 0 where there is none.
+/// The input address of the first entry; 0 if there is none.
 fn first_input(entries: &[EntryRow]) -> u64
     ensures { result ≡ first_input_of entries.now }
 {
@@ -82,8 +82,8 @@ fn table_words(
     Ok(bytes)
 }
 
-/// The bytes of the table: a word for each 4 bytes of the input from the first entry to the last, and one word of 0 where
-/// there is no entry.
+/// The bytes of the table: a word for each 4 bytes of the input from the first entry to the last.
+/// Without entries it is one word of 0.
 #[tactic(auto, using(crate::proofs::Tables::laid_is_table, crate::proofs::Tables::no_entries))]
 fn table_bytes(alloc: Global, entries: &[EntryRow], distance: u64) -> Result<Vec<u8>, AllocError>
     ensures { IfOk result (λ bytes. (high : ℕ) → AreEntries high entries.now → bytes.items ≡ table_bytes_of distance entries.now) }

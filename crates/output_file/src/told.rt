@@ -1,4 +1,4 @@
-//! What is told of an output.
+//! The plan of an output.
 ghost use Rattle.std.specs.Prelude.{◌≡◌, ◌+◌, ◌-◌, ◌*◌, ◌/◌, ◌^◌, ◌<◌, ◌++◌, All, IfOk, OnOk, map};
 ghost use Rattle.elf_types.specs.declared.file.ElfFile.{ElfFile};
 ghost use Rattle.tests.specs.declared.options.Options.{Options};
@@ -15,7 +15,7 @@ use elf_types::Listed;
 use qed_model::{Bounds, PieceRow, Plan, Range, Test};
 use std::alloc::{AllocError, Global};
 
-/// How many data words there are in a range.
+/// How many data words a range has.
 fn words_in(range: Range) -> u64
     ensures value { result ≡ (range.end - range.start) / 8 }
     ensures range { range.end < 2 ^ 64 }
@@ -23,7 +23,7 @@ fn words_in(range: Range) -> u64
     range.end.saturating_sub(range.start) / 8
 }
 
-/// How many data words there are in ranges.
+/// How many data words some ranges have.
 #[tactic(auto, using(crate::proofs::Counting::counted_none, crate::proofs::Counting::counted_more, crate::proofs::Counting::counted_all))]
 pub fn word_count(ranges: &[Range]) -> u64
     ensures { AreSpaced range_of ranges.now → result ≡ word_count_of (map range_of ranges.now) }
@@ -35,7 +35,7 @@ pub fn word_count(ranges: &[Range]) -> u64
     count
 }
 
-/// The address behind so many instructions. Addresses go round at 2^64.
+/// The address behind `count` instructions. Addresses wrap at 2^64.
 fn behind(address: u64, count: u64) -> u64
     ensures { address + 4 * count < 2 ^ 64 → result ≡ address + 4 * count }
 {
@@ -69,7 +69,7 @@ fn piece_rows(alloc: Global, blocks: &[CodeBlock]) -> Result<Vec<PieceRow>, Allo
     Ok(rows)
 }
 
-/// What is told of the output of a test with these blocks, this new code and these bounds.
+/// The plan of the output of a test with these blocks, this new code and these bounds.
 #[tactic(auto, using(crate::proofs::Counting::test_spaced))]
 pub fn plan(
     alloc: Global,

@@ -1,4 +1,4 @@
--- Of honest words a check alone leads to an EBREAK.
+-- Among honest words only a check leads to an EBREAK.
 use Rattle.std.proofs.Common.{◌≡◌, ℕ, zero, suc, ◌+◌, ◌*◌, ◌%◌, ◌^◌, ◌<◌, Bool, true, false, cond, List, [], ◌∷◌, length, refl, sym, ap, ◌∙◌, subst, arith}
 use Rattle.std.specs.Prelude.{◌==◌}
 use Rattle.std.proofs.lemmas.Bool.{false≢true}
@@ -17,7 +17,7 @@ use Rattle.weave_core.specs.Lock.{comparison, word_check}
 use Rattle.passes.specs.Honest.{NoBreak, sign_check, Checks, pairs, words, signs, HonestAs, AllHonest}
 use Rattle.passes.specs.Alone.{Differs, pair_differs, word_differs, sign_differs, ChecksAlone}
 
--- what is said of a word of a list
+-- the facts on one word of a list
 pub record Word (c : ℕ → Fetched) (a : ℕ) : Type 0 where
   pub ins : Ins
   pub known : c a ≡ Known ins
@@ -28,7 +28,7 @@ word_of c [] a k h g l = absurd (omega arith)
 word_of c (i ∷ is) a zero h g l = let e : a ≡ a + 4 * 0 = omega arith in subst (Word c) e (record { ins = i; known = h.0; honest = g.0 })
 word_of c (i ∷ is) a (suc k) h g l = let e : a + 4 + 4 * k ≡ a + 4 * suc k = omega arith in subst (Word c) e (word_of c is (a + 4) k h.1 g.1 (omega (arith, l)))
 
--- ---- where a step leads
+-- ---- the target of a step
 -- an access that is granted goes on
 granted : (b : Bool) (x y : State) (p : ℕ) → (y.outcome ≡ Going → ⊥) → (cond b x y).outcome ≡ Going → x.pc ≡ p → (cond b x y).pc ≡ p
 granted true x y p ne g e = e
@@ -67,11 +67,11 @@ module _ (c : ℕ → Fetched) (s : State) (i : Ins) where
   differs (signs b t e at es) lacks = sign_differs b t at es (fails sign_check e refl lacks)
 
   module _ (o : Over c s) (known : c s.pc ≡ Known i) (near : s.pc + 8 < 2 ^ 64) (leaps : class_of i.kind ≡ class.JumpReg → NoBreak c (step s).pc) (going : (step s).outcome ≡ Going) (brk : c (step s).pc ≡ ebreak) where
-    -- what the step is
+    -- the step by its class
     stepped : (k : Class) → class_of i.kind ≡ k → step s ≡ execute k i s
     stepped k e = step-class s i k o.going (known_at c s i o known) e
 
-    -- where it leads
+    -- if the step goes on to the next word, an EBREAK stands there
     behind : (k : Class) → class_of i.kind ≡ k → (k ≡ class.Branch → ⊥) → (k ≡ class.Jump → ⊥) → (k ≡ class.JumpReg → ⊥) → NoBreak c (s.pc + 4) → ⊥
     behind k e b j r n =
         let x = stepped k e in

@@ -1,4 +1,4 @@
--- Words that are honest.
+-- Honest words.
 use Rattle.std.proofs.Common.{◌≡◌, ℕ, ◌+◌, ◌*◌, ◌%◌, ◌^◌, ◌<◌, ◌≤◌, Bool, true, false, cond, List, [], ◌∷◌, length, refl, sym, ap, ◌∙◌, subst, arith}
 use Rattle.std.specs.Prelude.{◌==◌, pos}
 use Rattle.std.proofs.lemmas.Bool.{eqb-false}
@@ -14,7 +14,7 @@ use Rattle.weave_core.specs.Lock.{first_load, mirror_place, second_load, word_ch
 use Rattle.passes.specs.Honest.{NoBreak, sign_check, pairs, words, signs, HonestAs, AllHonest, HonestAt, HonestItems}
 use Rattle.passes.specs.Compose.{honest_items_none}
 
--- ---- what is no EBREAK
+-- ---- words that are not EBREAK
 pub other_word : (c : ℕ → Fetched) (a : ℕ) (i : Ins) (k : Class) → c a ≡ Known i → class_of i.kind ≡ k → (k ≡ class.Break → ⊥) → NoBreak c a
 other_word c a i k h e ne b = ne (sym e ∙ is (sym h ∙ b)) where
   is : Known i ≡ ebreak → class_of i.kind ≡ class.Break
@@ -28,7 +28,7 @@ GoesOn class.Store = Unit {0}
 GoesOn class.Fence = Unit {0}
 GoesOn _ = ⊥
 
--- a class of which nothing is asked
+-- a class without any demand
 abbrev pub Ends : Class → Type 0
 Ends class.JumpReg = Unit {0}
 Ends class.End = Unit {0}

@@ -1,4 +1,4 @@
--- The words of a pass that keeps lockstep are of the kinds.
+-- The words of a pass that keeps lockstep are of the kinds of woven words.
 use Rattle.std.proofs.Common.{◌≡◌, ◌+◌, ◌*◌, [], ◌++◌, subst, arith}
 use Rattle.qed_model.specs.Weave.Placed.{instructions_from}
 use Rattle.weave_core.specs.Lock.{Opens}

@@ -1,4 +1,4 @@
--- A pass over each of some instructions, which stand one word after the other in the input.
+-- A pass over each of some instructions, one word after another in the input.
 use Rattle.std.proofs.Common.{◌≡◌, ℕ, ◌+◌, ◌*◌, ◌%◌, ◌^◌, ◌<◌, Bool, List, [], ◌∷◌, ◌++◌, length, drop, refl, ap, ◌∙◌, subst, arith}
 use Rattle.qed_model.specs.declared.item.Item.{Item}
 use Rattle.qed_model.specs.Weave.Sequences.{Ins, each_part}
@@ -24,7 +24,7 @@ pub each_is : (part : Ins → ℕ → List Item) (is : List Ins) (at : ℕ) → 
 each_is part [] at h = refl
 each_is part (i ∷ is) at h = let e : next_at at ≡ at + 4 = omega (arith, h) in ap (λ a. part i at ++ items_each next_at part is a) e ∙ ap (λ l. part i at ++ l) (each_is part is (at + 4) (omega (arith, h)))
 
--- a part of the items of one
+-- a part of the items of one instruction
 pub part_each :
     (old now new : List Item) (part : Ins → ℕ → List Item) (list : List Ins) (first k at : ℕ) (i : Ins) → drop k list ≡ i ∷ drop (k + 1) list
     → Done old now (items_each next_at part list first) (items_each next_at part (drop k list) at) → AppendsPart now new (part i at)

@@ -1,4 +1,4 @@
--- Where words may lead to an EBREAK: at a comparison alone.
+-- Where words may lead to an EBREAK: only at a comparison.
 use Rattle.std.specs.Prelude.{◌≡◌, ℕ, ◌+◌, ◌*◌, ◌%◌, ◌^◌, ◌<◌, ◌≤◌, Bool, List, [], ◌∷◌, length, pos}
 use Rattle.rv_isa.specs.declared.profile.TheConstants.{LAST_ORIGINAL, SIGNATURE, TEMPORARY}
 use Rattle.rv_isa.specs.declared.class.Class.TheVariants as class
@@ -21,7 +21,7 @@ pub record EntryWords (c : ℕ → Fetched) (a t : ℕ) : Type 0 where
   pub upper : c a ≡ Known (ins Auipc TEMPORARY 0 0 (upper_part (distance_between a t)))
   pub lower : c (a + 4) ≡ Known (ins Addi TEMPORARY TEMPORARY 0 (lower_part (distance_between a t)))
 
--- the words of a visited word stand from an address on, up to its EBREAK
+-- the words of a visit stand from an address on, up to its EBREAK
 pub record VisitWords (c : ℕ → Fetched) (a : ℕ) : Type 0 where
   pub first : c a ≡ Known first_load
   pub mirror : c (a + 4) ≡ Known mirror_place
@@ -35,7 +35,7 @@ pub data Checks (c : ℕ → Fetched) (a : ℕ) (i : Ins) : Type 0 where
   words : (b : ℕ) → i ≡ word_check → a ≡ b + 12 → VisitWords c b → Checks c a i
   signs : (b t : ℕ) → i ≡ sign_check → a ≡ b + 8 → EntryWords c b t → Checks c a i
 
--- an instruction of a class leads to no EBREAK, but where it is such a comparison which fails; a JALR leads where its register says
+-- an instruction of a class leads to no EBREAK, unless it is a comparison that fails; a JALR may lead anywhere
 abbrev pub HonestAs : Class → (ℕ → Fetched) → ℕ → Ins → Type 0
 HonestAs class.Branch c a i = NoBreak c ((a + imm i) % 2 ^ 64) × (c (a + 4) ≡ ebreak → Checks c a i)
 HonestAs class.Jump c a i = NoBreak c ((a + imm i) % 2 ^ 64)
@@ -45,7 +45,7 @@ HonestAs class.End c a i = Unit {0}
 HonestAs class.Illegal c a i = Unit {0}
 HonestAs _ c a i = NoBreak c (a + 4)
 
--- each of some words does, from an address on
+-- each of some words, from an address on, leads to no EBREAK, unless it is a comparison that fails
 abbrev pub AllHonest : (ℕ → Fetched) → ℕ → List Ins → Type 0
 AllHonest c a [] = Unit {0}
 AllHonest c a (i ∷ is) = HonestAs (class_of i.kind) c a i × AllHonest c (a + 4) is
@@ -54,7 +54,7 @@ AllHonest c a (i ∷ is) = HonestAs (class_of i.kind) c a i × AllHonest c (a + 
 abbrev pub CalmEntries : (ℕ → Fetched) → (ℕ → ℕ) → Type 0
 CalmEntries c entry = (t : ℕ) → (entry t < 2 ^ 64) × NoBreak c (entry t)
 
--- the words of the items, wherever they stand, where none is behind them: each is honest, and the first is no EBREAK
+-- at any place without an EBREAK behind them, the words of the items are honest, and the first is not an EBREAK
 pub record HonestAt (far : Bool) (items : List Item) (c : ℕ → Fetched) (entry : ℕ → ℕ) (a : ℕ) : Type 0 where
   pub each : AllHonest c a (instructions_from far entry a items)
   pub front : NoBreak c a

@@ -5,6 +5,6 @@ use Rattle.passes.specs.Honest.{HonestItems}
 pub use Rattle.weave_core.specs.Pass.{Views, Stands, Chain, NeedsBoth, Does, same, Leads, Quiet, Lockstep, AllLow, AllSame}
 
 -- ---- Honest
--- an EBREAK of the items is reached only where a pair, a word and its duplicate, or a signature and its entry differ
+-- an EBREAK of the items is reached only if a pair, a word and its duplicate, or a signature and its entry differ
 pub record Honest (suits : Bool → Type 0) (items : List Item) : Type 0 where
   pub honest : (far : Bool) → suits far → HonestItems far items

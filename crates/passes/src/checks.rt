@@ -33,9 +33,9 @@ pub fn target(ins: &Ins, at: u64) -> u64
     at.wrapping_add(ins.imm.cast_unsigned())
 }
 
-/// Appends the comparison of a register up to x13 with its pair, which is none for x0.
+/// Appends the comparison of a register up to x13 with its pair; nothing for x0.
 ///
-/// Errors: want of memory, and then nothing is appended.
+/// Errors: want of memory; then nothing is appended.
 pub fn put_guard(out: &mut Emit, r: Reg) -> Result<(), AllocError>
     requires { r ≤ LAST_ORIGINAL }
     ensures all { OnOk result (out.new ≡ out.old ++ guard_of r) }
@@ -54,7 +54,7 @@ pub fn put_guard(out: &mut Emit, r: Reg) -> Result<(), AllocError>
 
 /// Appends the comparisons of some registers up to x13 with their pairs.
 ///
-/// Errors: want of memory, and then the first of them are appended.
+/// Errors: want of memory; then a first part is appended.
 #[tactic(auto, using(crate::specs::Emitted::part_none, crate::specs::Emitted::done_none, crate::specs::Emitted::done_more, crate::specs::Emitted::done_part, crate::specs::Emitted::done_all))]
 pub fn put_guards(out: &mut Emit, registers: &[Reg]) -> Result<(), AllocError>
     requires { AllLow registers.now }

@@ -7,8 +7,8 @@ use crate::{Emit, Pass, Then};
 use rv_isa::Ins;
 use std::alloc::{AllocError, Global};
 
-/// What is woven for a list of instructions of the input, which stand one word after the other, with
-/// the laws of a pass.
+/// What is woven for a list of instructions, one word after another in the input, with the laws of
+/// a pass.
 pub trait PassAll {
     ghost use Rattle.std.specs.Prelude.{ℕ, Bool, List, []};
     ghost use Rattle.rv_isa.specs.declared.ins.Ins.{Ins};
@@ -16,10 +16,10 @@ pub trait PassAll {
     ghost use Rattle.weave_core.specs.World.{World};
     ghost use Rattle.passes.specs.Pass.{Views, Quiet, Honest, Lockstep};
 
-    // The lists that it is for, from an input address on.
+    // The lists that it accepts, from an input address on.
     ghost is_for: { Self → List Ins → ℕ → Type 0 };
 
-    // As of a pass.
+    // The forms of the code, as for a pass.
     ghost suits: { Self → Bool → Type 0 };
 
     ghost items: { Self → List Ins → ℕ → List Item };
@@ -35,7 +35,7 @@ pub trait PassAll {
     /// Appends the items of a list whose first instruction stands at an input address; the others
     /// stand behind it, modulo 2^64.
     ///
-    /// Errors: want of memory, and then the first of them are appended.
+    /// Errors: want of memory; then a first part is appended.
     fn emit_all(&self, list: &[Ins], first: u64, out: &mut Emit) -> Result<(), AllocError>
         requires { is_for self.now list.now first }
         ensures all { OnOk result (out.new ≡ out.old ++ items self.now list.now first) }
@@ -48,7 +48,7 @@ pub trait PassAll {
     ghost lockstep: { (p : Self) (is : List Ins) (at : ℕ) → is_for p is at → Lockstep (suits p) [] (items p is at) };
 }
 
-/// A pass over each instruction. What it uses it guards itself.
+/// A pass over each instruction. It guards its own uses.
 #[derive(Clone, Copy, Drop)]
 pub struct Each<A> {
     pub pass: A,
@@ -157,8 +157,8 @@ impl<A: PassAll, B: PassAll> PassAll for Then<A, B> {
     ghost lockstep = { λ t is at h. lockstep_then (A.suits t.first) (B.suits t.second) [] [] (A.items t.first is at) (B.items t.second is at) refl (A.lockstep t.first is at h.0) (B.lockstep t.second is at h.1) };
 }
 
-/// The items of a list, alone: they lead on as the pass says, their checks are honest, and they keep two
-/// runs in lockstep.
+/// The items of a list, alone: they lead on as the pass says, their checks are honest, and they
+/// keep two runs in lockstep.
 pub fn emitted<P: PassAll>(
     pass: &P,
     alloc: Global,

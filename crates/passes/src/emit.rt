@@ -30,7 +30,7 @@ impl Emit {
         }
     }
 
-    /// Appends an item. With no memory nothing is appended.
+    /// Appends an item. Without memory it appends nothing.
     pub fn push(&mut self, item: Item) -> Result<(), AllocError>
         ensures all { OnOk result (self.new ≡ self.old ++ item ∷ []) }
         ensures none { OnErr result (self.new ≡ self.old) }
@@ -39,7 +39,7 @@ impl Emit {
         Ok(())
     }
 
-    /// Appends items. With no memory nothing is appended.
+    /// Appends items. Without memory it appends nothing.
     pub fn put(&mut self, items: &[Item]) -> Result<(), AllocError>
         ensures all { OnOk result (self.new ≡ self.old ++ items.now) }
         ensures none { OnErr result (self.new ≡ self.old) }
@@ -55,7 +55,7 @@ impl Emit {
         self.items.as_slice()
     }
 
-    /// Takes all items away. It needs no memory.
+    /// Removes all items. It needs no memory.
     pub fn clear(&mut self)
         ensures { self.new ≡ [] }
     {

@@ -15,43 +15,43 @@ pub trait Pass {
     ghost use Rattle.weave_core.specs.World.{World};
     ghost use Rattle.passes.specs.Pass.{Views, Quiet, Honest, Lockstep};
 
-    // The instructions that it is for, at an input address.
+    // The instructions that it accepts, at an input address.
     ghost is_for: { Self → Ins → ℕ → Type 0 };
 
-    // The form of the code, near or far, that it is for.
+    // The forms of the code, near or far, that it suits.
     ghost suits: { Self → Bool → Type 0 };
 
     // Its items.
     ghost items: { Self → Ins → ℕ → List Item };
 
-    // The registers that are to be compared with their pairs just before.
+    // The registers to compare with their pairs just before.
     ghost uses: { Self → Ins → List ℕ };
 
     // The most steps through its items.
     ghost cost: { Self → Ins → ℕ };
 
-    // What it needs, beyond that its items stand where the output goes on with both halves.
+    // What it needs, besides items at the place where the output goes on with both halves.
     ghost needs: { Self → Ins → ℕ → World → Views → Type 0 };
 
-    // What is true behind its items, of the views before, the steps and the views there.
+    // What holds behind its items, of the views before, the steps and the views there.
     ghost gives: { Self → Ins → ℕ → World → Views → ℕ → Views → Type 0 };
 
-    // What is true where it leads elsewhere, of the same.
+    // What holds if it leads elsewhere, of the views before, the steps and the views there.
     ghost leaves: { Self → Ins → ℕ → World → Views → ℕ → Views → Type 0 };
 
     /// Appends the items of an instruction at an input address.
     ///
-    /// Errors: want of memory, and then the first of them are appended.
+    /// Errors: want of memory; then a first part is appended.
     fn emit(&self, ins: &Ins, at: u64, out: &mut Emit) -> Result<(), AllocError>
         requires { is_for self.now ins.now at }
         ensures all { OnOk result (out.new ≡ out.old ++ items self.now ins.now at) }
         ensures part { OnErr result (AppendsPart out.old out.new (items self.now ins.now at)) };
 
-    // Quiet: from where what it needs holds, no check fires and nothing traps, and the halves are as
-    // the instruction says.
+    // Quiet: if what it needs holds, no check fires, nothing traps, and the halves are as the
+    // instruction says.
     ghost quiet: { (p : Self) (i : Ins) (at : ℕ) → is_for p i at → Quiet (suits p) (items p i at) (needs p i at) (gives p i at) (leaves p i at) (cost p i) };
 
-    // Honest: a check fires only where a pair, a word and its duplicate, or a signature and its entry
+    // Honest: a check fires only if a pair, a word and its duplicate, or a signature and its entry
     // differ.
     ghost honest: { (p : Self) (i : Ins) (at : ℕ) → is_for p i at → Honest (suits p) (items p i at) };
 

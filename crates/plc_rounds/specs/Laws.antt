@@ -43,7 +43,7 @@ pub honest_visit : (round : ℕ) (spans : List (ℕ × ℕ)) → Honest any (vis
 honest_visit round spans = record { honest = λ far s. times_honest far round (visit_word spans) (word_honest far spans) }
 
 -- ---- what the code makes
--- the last of several
+-- the last of several lists of items
 pub done_last : (old now new all x : List Item) → Done old now all x → new ≡ now ++ x → new ≡ old ++ all
 done_last old now new all x d e = done_all old new all (done_more old now new all x [] (subst (Done old now all) (sym (append-nil x)) d) e)
 
@@ -52,14 +52,14 @@ pub head_tail : (xs : List Range) (d : Range) → 1 ≤ length xs → xs ≡ sli
 head_tail [] d h = absurd (omega arith)
 head_tail (x ∷ xs) d h = refl
 
--- once more
+-- one of the repetitions, and those left
 pub times_left : (n k : ℕ) (is : List Item) → k < n → times (n - k) is ≡ is ++ times (n - (k + 1)) is
 times_left n k is h = let e : n - k ≡ suc (n - (k + 1)) = omega arith in ap (λ m. times m is) e
 
--- all of them
+-- no repetition is left
 pub times_end : (n : ℕ) (is : List Item) → times (n - n) is ≡ []
 times_end n is = let e : n - n ≡ 0 = omega arith in ap (λ m. times m is) e
 
--- a part of one of them
+-- a part of one repetition
 pub times_part : (old now new all : List Item) (n k : ℕ) (is : List Item) → k < n → Done old now all (times (n - k) is) → AppendsPart now new is → AppendsPart old new all
 times_part old now new all n k is h d p = done_part old now new all is (times (n - (k + 1)) is) (subst (Done old now all) (times_left n k is h) d) p

@@ -1,4 +1,4 @@
--- The data ranges as pairs, and what the visits of their words do.
+-- The data ranges as pairs, and the items of their visits.
 use Rattle.std.specs.Prelude.{ℕ, List, [], ◌∷◌, pos}
 use Rattle.rv_isa.specs.declared.profile.TheConstants.{CURSOR, TEMPORARY}
 use Rattle.machine.specs.Table.{Bne, ins}
@@ -12,6 +12,6 @@ abbrev pub spans_of : List Range → List (ℕ × ℕ)
 spans_of [] = []
 spans_of (r ∷ rs) = (r.start, r.end) ∷ spans_of rs
 
--- where the cursor is at `end` it goes on at `next`
+-- if the cursor is at `end`, it goes on at `next`
 abbrev pub wrap : ℕ → ℕ → List Item
 wrap end next = Constant TEMPORARY end ∷ Plain (ins Bne 0 CURSOR TEMPORARY (pos 12)) ∷ Constant CURSOR next ∷ []

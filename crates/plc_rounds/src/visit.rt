@@ -17,7 +17,7 @@ pub struct Visit {
     pub span: Ranges,
 }
 
-/// Where the cursor is at `end`, it goes on at `next`.
+/// If the cursor is at `end`, it goes on at `next`.
 fn put_wrap(end: u64, next: u64, out: &mut Emit) -> Result<(), AllocError>
     ensures all { OnOk result (out.new ≡ out.old ++ wrap end next) }
     ensures none { OnErr result (out.new ≡ out.old) }
@@ -36,7 +36,7 @@ fn put_wrap(end: u64, next: u64, out: &mut Emit) -> Result<(), AllocError>
     Ok(())
 }
 
-/// Appends the words behind a visited word, by which the cursor goes on behind the end of each range.
+/// Appends the words behind a visit that move the cursor past the end of each range.
 #[tactic(auto, using(passes::specs::Emitted::part_none, passes::specs::Emitted::done_none, passes::specs::Emitted::done_more, passes::specs::Emitted::done_part, passes::specs::Emitted::done_all, crate::specs::Laws::done_last))]
 fn put_wraps(range: Range, more: &[Range], first: u64, out: &mut Emit) -> Result<(), AllocError>
     ensures all { OnOk result (out.new ≡ out.old ++ wraps (spans_of (range ∷ more.now)) first) }
@@ -51,7 +51,7 @@ fn put_wraps(range: Range, more: &[Range], first: u64, out: &mut Emit) -> Result
     Ok(())
 }
 
-/// Appends the words of one visited data word.
+/// Appends the words of one visit.
 #[tactic(auto, using(passes::specs::Emitted::part_none, passes::specs::Emitted::part_first, passes::specs::Emitted::part_second, crate::specs::Laws::head_tail))]
 fn put_word(spans: &[Range], out: &mut Emit) -> Result<(), AllocError>
     ensures all { OnOk result (out.new ≡ out.old ++ visit_word (spans_of spans.now)) }

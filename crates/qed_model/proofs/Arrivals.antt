@@ -1,4 +1,4 @@
--- When the output comes to the input's states: the first steps that will do, if there are any that do.
+-- When the output has the input's states: after the first steps that will do, if there are any.
 use Rattle.std.proofs.Common.{◌≡◌, ℕ, zero, suc, ◌+◌, ◌-◌, ◌*◌, ◌^◌, ◌<◌, ◌≤◌, ◌↔◌, ⊎_elim, Bool, true, false, cond, ◌&&◌, List, is_some, refl, sym, ap, ◌∙◌, subst, arith}
 use Rattle.std.proofs.lemmas.Bool.{false≢true, and_parts, and_from, eq-eqb, eqb-true, cases_eq, cases_lt}
 use Rattle.std.specs.Prelude.{not, ◌||◌, ◌==◌}
@@ -12,7 +12,7 @@ use Rattle.qed_model.specs.Promise.Kept.{after_input, after_output, is_mapped, H
 use Rattle.qed_model.specs.Promise.OwnSteps.{each_below, first_from, has_ended, has_byte, has_values, arrival}
 
 -- ---- the first number that passes
--- of a choice
+-- the choice between k and a greater number is at least k
 chosen_low : (b : Bool) (k x : ℕ) → suc k ≤ x → k ≤ cond b k x
 chosen_low true k x h = omega arith
 chosen_low false k x h = omega (arith, h)
@@ -32,7 +32,7 @@ module _ (test : ℕ → Bool) where
   first_high zero k = omega arith
   first_high (suc n) k = let h = first_high n (suc k) in chosen_high (test k) k (first_from test n (suc k)) (k + suc n) (omega arith) (omega (arith, h))
 
-  -- one that fails is not one that passes
+  -- a number that fails lies before a later one that passes
   behind : (k m : ℕ) → k ≤ m → test k ≡ false → test m ≡ true → suc k ≤ m
   behind k m l fails passes = ⊎_elim (λ e. absurd (false≢true (sym fails ∙ ap test e ∙ passes))) (λ ne. omega (arith, l, ne)) (cases_eq k m)
 
@@ -102,7 +102,7 @@ module _ (f : Program) (s u : State) where
     ends true x = is_ended u.outcome (e.1 (ended_is s.outcome x))
     ends false x = ap not (not_ended u.outcome (λ y. false≢true (sym x ∙ is_ended s.outcome (e.0 y))))
 
-  -- the other way, where what the input maps are addresses
+  -- from the test to the values, if all that the input maps are addresses
   pub values_are : ((q : ℕ) → is_mapped f q ≡ true → q < 2 ^ 64) → has_values f s u ≡ true → Halves f s u × ((u.outcome ≡ Ended) ↔ (s.outcome ≡ Ended))
   unfolding has_values
   values_are low e =
@@ -124,14 +124,14 @@ module _ (f : Program) (s u : State) where
 
 -- ---- arrivals
 module _ (f g : Program) (first bound : ℕ) (regs : List ℕ) where
-  -- the output has the input's values after n steps of it when it has made m itself
+  -- the output has the input's values after n steps, when it has made m steps itself
   abbrev test_at : ℕ → ℕ → Bool
   test_at n m = has_values f (after_input f n) (after_output g regs m)
 
   abbrev pub At : ℕ → ℕ → Type 0
   At n m = has_values f (after_input f n) (after_output g regs m) ≡ true
 
-  -- it came to those of the steps before in their order
+  -- the output had the values of the input's first steps in their order
   abbrev pub Marks : ℕ → ℕ → Type 0
   Marks zero m = At 0 m
   Marks (suc n) m = (k : ℕ) × (k < m) × Marks n k × At (suc n) m
@@ -142,7 +142,7 @@ module _ (f g : Program) (first bound : ℕ) (regs : List ℕ) where
   arrives zero m t = first_least (test_at 0) (first + bound) 0 m (omega arith) t
   arrives (suc n) m t = let h = arrives n t.0 t.2 in first_least (test_at (suc n)) (first + (suc n + 1) * bound - (arrival f g first bound regs n + 1)) (arrival f g first bound regs n + 1) m (omega (arith, h, t.1)) t.3
 
-  -- and where there is a mark within the bound, there are the values
+  -- if there is a mark within the bound, the output has the values there
   pub arrived : (n m : ℕ) → Marks n m → m ≤ first + (n + 1) * bound → At n (arrival f g first bound regs n)
   unfolding arrival
   arrived zero m t l = first_passes (test_at 0) (first + bound) 0 m (omega arith) (omega (arith, l)) t
@@ -160,7 +160,7 @@ module _ (f g : Program) (first bound : ℕ) (regs : List ℕ) where
       let h = first_high (test_at (suc n)) (first + (suc n + 1) * bound - (arrival f g first bound regs n + 1)) (arrival f g first bound regs n + 1) in
       omega (arith, h, b, one)
 
-  -- arrivals are in the order of the input's steps
+  -- arrivals come in the order of the input's steps
   later : (n k : ℕ) → arrival f g first bound regs n ≤ arrival f g first bound regs (n + k)
   later n zero = let e : n ≡ n + 0 = omega arith in subst (λ m. arrival f g first bound regs n ≤ arrival f g first bound regs m) e (omega arith)
   later n (suc k) =

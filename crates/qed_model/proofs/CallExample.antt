@@ -1,5 +1,5 @@
--- A known test without sections, a call and a return, is admitted, and has the blocks that `reference/qed plan` gives it: jal x1, +12;
--- addi x5, x0, 9; ecall; jalr x1, 0(x1). The ECALL at 0x10008 is no leader, and has a block of its own.
+-- A known test without sections, a call and a return, is admitted, and has the blocks that `reference/qed plan` prints:
+-- jal x1, +12; addi x5, x0, 9; ecall; jalr x1, 0(x1). The ECALL at 0x10008 is not a leader, and has a block of its own.
 use Rattle.std.proofs.Common.{◌≡◌, inl, inr, true, false, List, [], ◌∷◌, refl, arith}
 use Rattle.std.specs.Prelude.{pos}
 use Rattle.machine.specs.Numbers.{number_bytes, bytes_of}

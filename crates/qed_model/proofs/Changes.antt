@@ -1,4 +1,4 @@
--- Lists of changes in order, and runs with none.
+-- Lists of changes in order, and runs without changes.
 use Rattle.std.proofs.Common.{◌≡◌, ℕ, zero, suc, ◌+◌, ◌<◌, ◌≤◌, false, cond, List, [], ◌∷◌, refl, sym, ap, ◌∙◌, arith}
 use Rattle.std.specs.Prelude.{◌==◌}
 use Rattle.std.proofs.lemmas.Bool.{ne_eqb}
@@ -21,27 +21,27 @@ pub rest_ordered : (c : Change) (cs : List Change) → Ordered (c ∷ cs) → Or
 rest_ordered c [] o = tt
 rest_ordered c (d ∷ cs) o = o.1
 
--- the first step is none behind the last
+-- the first step is not behind the last
 pub first_last : (c : Change) (cs : List Change) → Ordered (c ∷ cs) → c.step ≤ last_step (c ∷ cs)
 first_last c [] o = omega arith
 first_last c (d ∷ cs) o = let k = first_last d cs o.1 in omega (arith, o.0, k)
 
--- and the rest ends where the list does
+-- the rest ends no later than the list
 pub rest_last : (c : Change) (cs : List Change) (t : ℕ) → last_step (c ∷ cs) ≤ t → last_step cs ≤ t
 rest_last c [] t h = omega arith
 rest_last c (d ∷ cs) t h = h
 
--- each change is made after t steps at the latest
+-- each change is made after t steps or before
 abbrev pub AllBy : ℕ → List Change → Type 0
 AllBy t [] = Unit {0}
 AllBy t (c ∷ cs) = (c.step ≤ t) × AllBy t cs
 
--- as those of a list in order that ends by then
+-- all changes of a list in order are made by its last step
 pub by_last : (cs : List Change) (t : ℕ) → Ordered cs → last_step cs ≤ t → AllBy t cs
 by_last [] t o h = tt
 by_last (c ∷ cs) t o h = let k = first_last c cs o in (omega (arith, k, h), by_last cs t (rest_ordered c cs o) (rest_last c cs t h))
 
--- none is made where each comes before
+-- no change is made if each comes before
 pub none_left : (n t : ℕ) (cs : List Change) (s : State) → AllBy t cs → t < n → with_changes cs n s ≡ s
 unfolding with_changes
 none_left n t [] s by h = refl

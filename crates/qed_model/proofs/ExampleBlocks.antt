@@ -1,5 +1,5 @@
--- The blocks of a known file whose instructions are known: which addresses are leaders, and that a list of blocks is all of them, from
--- tests that are computed.
+-- The blocks of a known file with known instructions: which addresses are leaders, and that a list of blocks is all of
+-- them. Proved by computed tests.
 use Rattle.std.proofs.Common.{◌≡◌, inl, inr, ⊎_elim, ℕ, zero, suc, ◌+◌, ◌*◌, ◌<◌, ◌≤◌, Bool, true, false, ◌&&◌, ◌||◌, not, List, [], ◌∷◌, ◌++◌, length, Some, None, is_some, refl, sym, ap, ◌∙◌, subst, arith}
 use Rattle.std.specs.Prelude.{nat_le, nat_lt, ◌==◌, All}
 use Rattle.std.specs.List.{list_all, list_any}
@@ -18,7 +18,7 @@ use Rattle.machine.specs.Members.{Pairs, Every}
 use Rattle.qed_model.proofs.ExampleCode.{StandFrom, IsCodeOf, IsAt, each_at, code_of, one_of, tested}
 
 -- ---- pieces
--- with the next run's first instruction a run would be none
+-- with the next run's first instruction, a run would not be one
 abbrev breaks : List Ins → List (List Ins) → Bool
 breaks run [] = true
 breaks run ([] ∷ runs) = false
@@ -62,11 +62,11 @@ ascends [] e = tt
 ascends (b ∷ bs) e = let p = and_parts (before_all b.start bs) (do_ascend bs) e in (all_before b bs p.0, ascends bs p.1)
 
 -- ---- tests of instructions at their addresses
--- an instruction leads to the address: by its target, or as the end before it
+-- an instruction leads to the address: as a jump to its target, or as the end before it
 abbrev leads : ℕ → ℕ → Ins → Bool
 leads a b i = (has_target (class_of i.kind) && a == target i b) || (is_end (class_of i.kind) && a == b + 4)
 
--- one of them does
+-- one of some instructions leads to the address
 abbrev leads_to : ℕ → ℕ → List Ins → Bool
 leads_to a from [] = false
 leads_to a from (i ∷ is) = leads a from i || leads_to a (from + 4) is
@@ -79,11 +79,11 @@ led a b i from (j ∷ js) m h =
     (λ r. or_right (leads a from j) (leads_to a (from + 4) js) (led a b i (from + 4) js r h))
     m
 
--- one of them is a JALR
+-- one of some instructions is a JALR
 abbrev pub has_indirect : List Ins → Bool
 has_indirect code = list_any (λ (i : Ins). is_indirect (class_of i.kind)) code
 
--- where all code addresses have entries, and a comparison stands behind each piece
+-- all code addresses have entries, and a comparison stands behind each piece
 module _ (f : ElfFile) (from : ℕ) (code : List Ins) (known : IsCodeOf f from code) (o : Options) (all : o.entries ≡ entries.All) (compared : o.lean ≡ None) where
   -- ---- leaders
   abbrev pub is_begun : ℕ → Bool
@@ -141,7 +141,7 @@ module _ (f : ElfFile) (from : ℕ) (code : List Ins) (known : IsCodeOf f from c
   body_of [] rest b s e = tt
   body_of (i ∷ is) rest b s e = let p = and_parts (not (is_end (class_of i.kind))) (no_end is) e in (s.0, not-true (is_end (class_of i.kind)) p.0, body_of is rest (b + 4) s.1 p.1)
 
-  -- no leader stands among so many words from an address on, or behind the first of them
+  -- no leader stands at any of these words from an address on, nor behind the first of them
   abbrev none_begun : ℕ → List Ins → Bool
   none_begun b [] = true
   none_begun b (i ∷ is) = not (is_begun b) && none_begun (b + 4) is
@@ -167,7 +167,7 @@ module _ (f : ElfFile) (from : ℕ) (code : List Ins) (known : IsCodeOf f from c
       no_leader (b + 4 * suc k) (ap is_begun (sym at) ∙ none_there is (b + 4) k e (omega (arith, l)))
 
   -- ---- the blocks of leaders
-  -- what stands behind so many instructions, and the body behind it, up to a further instruction
+  -- a body of runs behind a front of instructions, up to a further instruction
   module _ (front : List Ins) (runs : List (List Ins)) (i : Ins) (rest : List Ins) (split : code ≡ front ++ (whole runs ++ i ∷ rest)) (cut : are_runs runs ≡ true) where
     abbrev start : ℕ
     start = from + 4 * length front
@@ -203,7 +203,7 @@ module _ (f : ElfFile) (from : ℕ) (code : List Ins) (known : IsCodeOf f from c
           pieces = pieces_of o.inst_max runs cut;
         }
 
-    -- one that stops at an end
+    -- a body that stops at an end
     pub stopping :
         is_block && (is_end (class_of i.kind) && (length (whole runs) == 0 || not (is_begun stop))) ≡ true
         → IsLeaderBlock f o (record { start = start; body = all_pieces o.inst_max runs; end = Stops i; reached = false })
@@ -213,7 +213,7 @@ module _ (f : ElfFile) (from : ℕ) (code : List Ins) (known : IsCodeOf f from c
         block_of (Stops i) p.0
         (stands_next, q.0, ⊎_elim (λ z. inl (eqb-true (length (whole runs)) 0 z)) (λ n. inr (no_leader stop (not-true (is_begun stop) n))) (or_cases (length (whole runs) == 0) (not (is_begun stop)) q.1))
 
-    -- one that falls to the next leader
+    -- a body that falls through to the next leader
     pub falling :
         is_block && (nat_le 1 (length (whole runs)) && is_begun stop) ≡ true
         → IsLeaderBlock f o (record { start = start; body = all_pieces o.inst_max runs; end = Falls; reached = false })
@@ -223,7 +223,7 @@ module _ (f : ElfFile) (from : ℕ) (code : List Ins) (known : IsCodeOf f from c
         block_of Falls p.0
         (leb-true 1 (length (whole runs)) q.0, inl (record { code = code_of f from code known stop i stands_next; begins = begins_of stop q.1 }))
 
-  -- ---- the block of another address: an end, where the code has a JALR
+  -- ---- the block of another address: an end, if the code has a JALR
   indirect_in : (is : List Ins) (b : ℕ) → StandFrom f b is → has_indirect is ≡ true → HasIndirect f
   indirect_in [] b s e = absurd (false≢true e)
   indirect_in (i ∷ is) b s e =
@@ -254,11 +254,11 @@ module _ (f : ElfFile) (from : ℕ) (code : List Ins) (known : IsCodeOf f from c
       (λ r. or_right (is_indirect (class_of j.kind)) (has_indirect js) (indirect_there a i (b + 4) js r h))
       m
 
-  -- a block begins at the address; or it is no leader, and the code has no JALR
+  -- a block begins at the address; or the address is not a leader, and the code has no JALR
   abbrev pub is_served : List Block → ℕ → Bool
   is_served blocks a = begins_at blocks a || not (is_begun a || has_indirect code)
 
-  -- none is marked
+  -- no block is marked as reached
   none_marked : (blocks : List Block) → list_all (λ b. not b.reached) blocks ≡ true → All (IsMarked f o) blocks
   none_marked [] e = All-nil (IsMarked f o)
   none_marked (b ∷ bs) e =

@@ -1,5 +1,5 @@
--- A known file with one range of code, of which each instruction is known: what stands at each code address, and that no rule refuses
--- the file, from tests that are computed.
+-- A known file with one range of code and known instructions: what stands at each code address, and that no rule
+-- refuses the file. Proved by computed tests.
 use Rattle.std.proofs.Common.{◌≡◌, ◌⊎◌, inl, inr, ⊎_elim, ℕ, zero, suc, ◌+◌, ◌*◌, ◌%◌, ◌^◌, ◌<◌, ◌≤◌, Bool, true, false, ◌&&◌, ◌||◌, not, List, [], ◌∷◌, length, get_or, Option, Some, None, refl, sym, ap, ◌∙◌, subst, arith}
 use Rattle.std.specs.Prelude.{AllPairs, slice_get, is_none, nat_le, nat_lt, ◌==◌, if◌then◌else◌}
 use Rattle.std.specs.List.{list_any}
@@ -26,7 +26,7 @@ none_passes test (x ∷ xs) e zero = (or_parts (test x) (list_any test xs) e).0
 none_passes test (x ∷ xs) e (suc i) = none_passes test xs (or_parts (test x) (list_any test xs) e).1 i
 
 -- ---- options
--- where none is given, and with the sweep alone
+-- the options: none given, or the sweep alone
 abbrev pub options : Bool → Options
 options sweep = record { inst_min = 4; inst_max = 16; round = 1; half = None; sweep = sweep; diverse = false; entries = entries.All; lean = None; land = false }
 
@@ -40,23 +40,23 @@ pub sound : (sweep : Bool) → AreSoundOptions (options sweep)
 sound sweep = record { some = omega arith; room = omega arith; most = omega arith; visits = omega arith; few_visits = omega arith; half = tt; lean = tt }
 
 -- ---- the code
--- the instructions stand one behind the other from an address on
+-- the instructions stand one behind another from an address on
 abbrev pub StandFrom : ElfFile → ℕ → List Ins → Type 0
 StandFrom f a [] = Unit {0}
 StandFrom f a (i ∷ is) = (instruction_at f a ≡ Some i) × StandFrom f (a + 4) is
 
--- they are all of the file's code
+-- the instructions are all of the file's code
 pub record IsCodeOf (f : ElfFile) (from : ℕ) (code : List Ins) : Type 0 where
   pub range : ranges_of f ≡ (from, from + 4 * length code) ∷ []
   pub grain : from % 4 ≡ 0
   pub stand : StandFrom f from code
 
--- an instruction and its address are among them
+-- an instruction and its address are among these
 abbrev pub IsAt : ℕ → Ins → ℕ → List Ins → Type 0
 IsAt a i from [] = ⊥
 IsAt a i from (j ∷ js) = ((a ≡ from) × (i ≡ j)) ⊎ IsAt a i (from + 4) js
 
--- each of them, at its address, passes a test
+-- each instruction, at its address, passes a test
 abbrev pub each_at : (ℕ → Ins → Bool) → ℕ → List Ins → Bool
 each_at test a [] = true
 each_at test a (i ∷ is) = test a i && each_at test (a + 4) is
@@ -101,7 +101,7 @@ module _ (f : ElfFile) (from : ℕ) (code : List Ins) (known : IsCodeOf f from c
   none_at : (a : ℕ) → is_code f a ≡ false → instruction_at f a ≡ None
   none_at a e = ap (λ b. if b then decode_of (word_at f a) else None) e
 
-  -- what stands somewhere stands at a code address, and is one of the instructions
+  -- an instruction that stands anywhere stands at a code address, and is one of these
   pub code_of : (a : ℕ) (i : Ins) → instruction_at f a ≡ Some i → is_code f a ≡ true
   code_of a i h = either_way (is_code f a ≡ true) (is_code f a) (λ e. e) (λ e. absurd (none (sym (none_at a e) ∙ h))) where
     none : None ≡ Some i → ⊥
@@ -134,12 +134,12 @@ module _ (f : ElfFile) (from : ℕ) (code : List Ins) (known : IsCodeOf f from c
       let high = (there 1048576 many).2 in
       absurd (omega (arith, low, high, few))
 
-  -- ---- no rule refuses it
-  -- what an instruction has to pass: no register above x13, no EBREAK, no AUIPC that is out of reach of the base
+  -- ---- no rule refuses the file
+  -- an instruction passes: no register above x13, no EBREAK, no AUIPC out of reach of the base
   abbrev pub is_fine : ℕ → Ins → Bool
   is_fine a i = is_none (high_register i) && not (is_ebreak i.kind || is_auipc i.kind && is_far (distance_between (base_of (image_of f)) (target i a)))
 
-  -- and the segments and sections: that none of these rules holds
+  -- the segments and sections break one of these rules
   abbrev pub is_refused : Bool
   is_refused =
       is_compressed f
@@ -154,7 +154,7 @@ module _ (f : ElfFile) (from : ℕ) (code : List Ins) (known : IsCodeOf f from c
   none_of (Some r) e = absurd (false≢true e)
 
   module _ (fine : each_at is_fine from code ≡ true) where
-    -- so is what is asked of the instruction at each address
+    -- the demands on the instruction at each address hold
     asked :
         {A : Type 0} (of : ℕ → Option Ins → A) (x : A) → ((a : ℕ) → of a None ≡ x) → ((a : ℕ) (i : Ins) → is_fine a i ≡ true → of a (Some i) ≡ x)
         → (a : ℕ) → of a (instruction_at f a) ≡ x

@@ -1,4 +1,4 @@
--- What counts the output's steps follows from what counts the test's own.
+-- Promises in steps of the output follow from those in the test's own steps.
 use Rattle.std.proofs.Common.{◌≡◌, ℕ, zero, suc, ◌+◌, ◌≤◌, ◌<◌, inl, inr, Bool, List, refl, arith, ◌∙◌, ap, sym, subst, ◌-◌}
 use Rattle.machine.specs.declared.outcome.Outcome.TheVariants.{Ended}
 use Rattle.machine.specs.Step.{State, run, step, step_at}
@@ -19,7 +19,7 @@ not_before : (f g : Program) (first bound : ℕ) (regs : List ℕ) (n : ℕ) →
 not_before f g first bound regs zero = omega arith
 not_before f g first bound regs (suc n) = let h = not_before f g first bound regs n in let x = arrival_grows f g first bound regs n in omega (arith, h, x)
 
--- as long as the input is steady for as many steps as the output has made, these are covered
+-- while the input is steady for as many steps as the output has made, these steps are covered
 pub covers_steady : (f g : Program) (reached : ℕ → Bool) (first bound : ℕ) (regs : List ℕ) (m : ℕ) → Steady f reached m → Covers f g reached first bound regs m
 covers_steady f g reached first bound regs m s = record { steps = m; steady = s; until = not_before f g first bound regs m }
 
@@ -30,13 +30,13 @@ settles spans t b changed unchanged s = by_case s.steps s.within s.settled where
   by_case n w (IsSettled.ends e k x) = record { steps = n; within = w; settled = inr (inl e) }
   by_case n w (IsSettled.gone l x) = record { steps = n; within = w; settled = inr (inr (l, x)) }
 
--- a state that has ended stays
+-- a state that has ended stays so
 ended_stays : (n : ℕ) (s : State) → s.outcome ≡ Ended → run s n ≡ s
 unfolding run step
 ended_stays zero s e = refl
 ended_stays (suc n) s e = ap (λ x. run x n) (ap (λ o. step_at o s) e) ∙ ended_stays n s e
 
--- at a step of the output: no check has fired, and where it has ended, so has the input
+-- at a step of the output: no check has fired, and if it has ended, so has the input
 quiet :
     (f g : Program) (reached : ℕ → Bool) (d first bound : ℕ) → KeptInStep f g reached d first bound → (regs : List ℕ) → AreStartRegs regs → (m : ℕ) → Steady f reached m → NoFalseAlarm f g m regs
 quiet f g reached d first bound k regs are m s =

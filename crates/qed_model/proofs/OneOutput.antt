@@ -1,4 +1,4 @@
--- What is woven from a test is one file.
+-- A test has one output.
 use Rattle.std.proofs.Common.{◌≡◌, ℕ, suc, ◌^◌, ◌<◌, List, [], ◌∷◌, Some, refl, sym, ap, ◌∙◌, subst}
 use Rattle.std.specs.Prelude.{slice_index}
 use Rattle.elf_types.specs.declared.output.OutFile.{OutFile}
@@ -47,6 +47,6 @@ one_woven_test input o a b x y =
     let kept : file_with (new_code f o y.blocks) f o y.words ≡ file_with (new_code f o x.blocks) f o y.words = ap (λ bs. file_with (new_code f o bs) f o y.words) blocks in
     x.woven ∙ sym (y.woven ∙ moved ∙ kept ∙ ap (λ ws. file_with (new_code f o x.blocks) f o ws) words)
 
--- so it has one output
+-- an input has one output
 pub one_output : (input : List ℕ) (o : Options) (a b : List ℕ) → Woven input o a → Woven input o b → a ≡ b
 one_output input o a b x y = x.bytes ∙ ap written (one_woven_test input o x.out y.out x.file y.file) ∙ sym y.bytes

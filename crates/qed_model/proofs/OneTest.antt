@@ -1,4 +1,4 @@
--- A file has one test, with which it is known what is reached.
+-- A file has one test, which determines its reached addresses.
 use Rattle.std.proofs.Common.{◌≡◌, ℕ, true, List, [], ◌∷◌, map, Some, sym, ap, ◌∙◌, subst}
 use Rattle.std.specs.Prelude.{All}
 use Rattle.std.proofs.lemmas.List.Elements.{All-head, All-tail}
@@ -63,15 +63,15 @@ test_only f o t u a b =
     λ n. record { entry = entry n; ranges = ranges n; code = code n; base = base n; distance = distance n; low = low n; high = high n; span = span n; segments = segments n }
 
 -- ---- what is reached
--- by any test of the file
+-- an address is reached by any test of the file
 pub reached_by : (f : ElfFile) (o : Options) (t : Test) (a : ℕ) → IsTestOf f o t → IsReached f o a → is_reached f t a ≡ true
 reached_by f o t a told r = subst (λ u. is_reached f u a ≡ true) (test_only f o r.test t r.told told) r.reached
 
--- what its test reaches
+-- the addresses that its test reaches
 pub are_reached : (f : ElfFile) (o : Options) (t : Test) → IsTestOf f o t → AreReached f o (is_reached f t)
 are_reached f o t told only a e = record { test = t; told = told; reached = e }
 
--- where all code addresses have entries any address is one of them
+-- if all code addresses have entries, any address may count as reached
 pub any_reached : (f : ElfFile) (o : Options) → o.entries ≡ entries.All → AreReached f o any_address
 any_reached f o all only a e = absurd (apart (sym all ∙ only)) where
   apart : entries.All ≡ entries.Reached → ⊥

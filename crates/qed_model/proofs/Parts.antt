@@ -25,11 +25,11 @@ pub joined_append : (ps qs : List (Role × List Item)) → joined (ps ++ qs) ≡
 joined_append [] qs = refl
 joined_append (p ∷ ps) qs = ap (λ l. p.1 ++ l) (joined_append ps qs) ∙ sym (append_assoc p.1 (joined ps) (joined qs))
 
--- those of two parts
+-- the items of two parts
 both : (ps qs : List (Role × List Item)) (xs ys : List Item) → joined ps ≡ xs → joined qs ≡ ys → joined (ps ++ qs) ≡ xs ++ ys
 both ps qs xs ys e f = joined_append ps qs ∙ ap (λ l. l ++ joined qs) e ∙ ap (λ l. xs ++ l) f
 
--- ---- of any sequences
+-- ---- any sequences
 module _ (s : Sequences) (p : Parts) (are : ArePartsOf s p) where
   pieces_joined : (ps : List (List Ins)) (at : ℕ) → joined (pieces_parts p ps at) ≡ pieces_of s ps at
   pieces_joined [] at = refl
@@ -51,7 +51,7 @@ module _ (s : Sequences) (p : Parts) (are : ArePartsOf s p) where
   pub code_joined : (d a : ℕ) (bs : List Block) → joined (code_parts p d a bs) ≡ code_of s d a bs
   code_joined d a bs = both (parts_to_stub p d a bs) ((role.Stub, stub) ∷ []) _ _ (to_stub_joined d a bs) refl ∙ append_assoc (s.first d a) (entries_of s bs) stub
 
--- ---- of the forms
+-- ---- the two forms
 each_joined : (of : ℕ → Role) (part : Ins → ℕ → List Item) (is : List Ins) (at : ℕ) → joined (each_parts of part is at) ≡ each_part part is at
 each_joined of part [] at = refl
 each_joined of part (i ∷ is) at = ap (λ l. part i at ++ l) (each_joined of part is (at + 4))
@@ -73,7 +73,7 @@ parts_are form = record {
   left Falls at = refl
   left (Stops i) at = left_as (class_of i.kind) i at
 
--- of a piece of the lean form
+-- both parts of a piece of the lean form
 both_joined : (diverse : Bool) (is : List Ins) (at : ℕ) → joined (both_of diverse is at) ≡ both_parts diverse is at
 both_joined diverse is at = both (each_parts role.Original original is at) (each_parts role.Mirror (mirror_of diverse) is at) _ _ (each_joined role.Original original is at) (each_joined role.Mirror (mirror_of diverse) is at)
 
@@ -110,7 +110,7 @@ lean_are form base entry l leader = record {
   left Falls a at = append-nil (leave_of l.distance (before_end form) (fall_words leader) Falls a at)
   left (Stops i) a at = left_as (class_of i.kind) i a at
 
--- ---- of the new code
+-- ---- the new code
 pub roles_cover : (form : Option ℕ) (f : ElfFile) (o : Options) (blocks : List Block) → joined (code_as form f o blocks).parts ≡ (code_as form f o blocks).items
 roles_cover None f o blocks =
     let form = form_of f o (is_far_code f o blocks) in

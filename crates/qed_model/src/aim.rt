@@ -9,14 +9,14 @@ pub enum Places {
     Words,
 }
 
-/// Where an output is struck: the places, and the steps after which the changes are made.
+/// What a campaign strikes: the places, and after which steps.
 #[derive(Clone, Copy, Debug, PartialEq, Eq)]
 pub struct Aim {
-    /// None is registers and data words.
+    /// None means registers and data words.
     pub only: Option<Places>,
     /// The least step.
     pub from: u64,
-    /// The step behind the greatest; None is that at which the output first does not go on.
+    /// The step behind the greatest; None means the step at which the output stops.
     pub to: Option<u64>,
 }
 
@@ -24,9 +24,9 @@ pub struct Aim {
 #[derive(Clone, Copy, Debug, PartialEq, Eq)]
 pub struct Draws {
     pub seed: u64,
-    /// How many strikes.
+    /// How many strikes to draw.
     pub count: u64,
-    /// How many changes each has.
+    /// How many changes each strike has.
     pub changes: u64,
     pub aim: Aim,
 }

@@ -21,15 +21,15 @@ pub struct Shape {
     pub land: bool,
 }
 
-/// The bounds, in steps.
+/// The bounds of an output, in steps.
 #[derive(Clone, Copy, Debug, PartialEq, Eq)]
 pub struct Bounds {
-    /// The longest piece, with its entry and its leave.
+    /// The steps of the longest piece, with its entry and its leave.
     pub piece: u64,
-    /// Until a change of a register is seen, or gone.
+    /// The steps until a change of a register is seen, or gone.
     pub register: u64,
-    /// The same for a data word; None where there is no data word.
+    /// The steps until a change of a data word is seen, or gone; None without data words.
     pub word: Option<u64>,
-    /// What runs before the first entry, and what runs before the end.
+    /// The steps before the first entry, and those before the end.
     pub start: u64,
 }

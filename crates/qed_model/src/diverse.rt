@@ -19,7 +19,7 @@ pub struct Part {
     pub kind: Kind,
     /// Where it writes.
     pub to: Place,
-    /// What it reads: x0 where its format has no such field.
+    /// What it reads: x0 if its format has no such field.
     pub left: Place,
     pub right: Place,
     pub imm: i64,

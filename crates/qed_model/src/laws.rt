@@ -1,9 +1,9 @@
-//! What the definitions say of each other.
+//! Laws between the definitions.
 ghost use Rattle.qed_model.specs.Promise.InStep.{PromisesFollow};
 ghost use Rattle.qed_model.specs.Weave.Output.{InputHasOneOutput};
 ghost use Rattle.qed_model.specs.Weave.Woven.{RolesCover};
 
-/// With the same options the same bytes have one output.
+/// With given options, given bytes have one output.
 pub fn input_has_one_output()
     ensures { InputHasOneOutput }
 {}
@@ -13,8 +13,8 @@ pub fn roles_cover()
     ensures { RolesCover }
 {}
 
-/// What is promised as long as the input is steady for its own steps also holds as long as it is steady for as many steps as the output
-/// makes.
+/// A promise that holds while the input is steady for its own steps also holds while it is steady
+/// for as many steps as the output makes.
 #[tactic(auto, using(crate::proofs::Following::promises_follow))]
 pub fn promises_follow()
     ensures { PromisesFollow }

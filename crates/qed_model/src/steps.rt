@@ -1,4 +1,4 @@
-//! Steps of code sequences that several bounds are made of (docs/PROFILE.md).
+//! Step counts of code sequences that several bounds use (docs/PROFILE.md).
 ghost use Rattle.std.specs.Prelude.{◌≡◌, ◌≤◌};
 ghost use Rattle.qed_model.specs.Weave.Bounds.{cost_of};
 ghost use Rattle.qed_model.specs.Weave.LeanBounds.{cost_of as lean_cost_of, entry_steps as entry_steps_of, call_steps as call_steps_of};
@@ -12,13 +12,13 @@ pub const DIVERSE_STEPS: u64 = 8;
 /// The most steps of a store of the lean form in both its parts.
 pub const STORE_STEPS: u64 = 6;
 
-/// A tick of the lean form that passes.
+/// The steps of a tick of the lean form that does not call the check.
 pub const TICK_STEPS: u64 = 3;
 
-/// An entry that tests the signature, and its tick.
+/// The steps of an entry that tests the signature, with its tick.
 pub const LANDING_STEPS: u64 = 6;
 
-/// What a tick takes besides to go to the check.
+/// The extra steps of a tick that calls the check.
 pub const CALL_STEPS: u64 = 3;
 
 /// The most steps of a leave of the lean form.
@@ -47,7 +47,7 @@ pub fn lean_instruction_steps(diverse: bool) -> u64
     if diverse { DIVERSE_STEPS } else { STORE_STEPS }
 }
 
-/// The steps of an entry of the lean form whose tick passes, and which may test the signature first.
+/// The steps of an entry of the lean form whose tick does not call the check; with `land` it tests the signature first.
 pub fn entry_steps(land: bool) -> u64
     ensures value { result ≡ entry_steps_of land }
     ensures bound { result ≤ 6 }
@@ -55,7 +55,7 @@ pub fn entry_steps(land: bool) -> u64
     if land { LANDING_STEPS } else { TICK_STEPS }
 }
 
-/// The steps that a tick takes besides to go to the check.
+/// The extra steps of a tick that calls the check.
 pub fn call_steps(land: bool) -> u64
     ensures value { result ≡ call_steps_of land }
     ensures bound { result ≤ 3 }

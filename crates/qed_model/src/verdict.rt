@@ -9,9 +9,9 @@ pub enum Verdict {
     Closed,
     /// The output had stopped before the last change.
     NotReached,
-    /// A check fired after so many steps.
+    /// A check fired, this many steps after the last change.
     Fired(u64),
-    /// The output ended after so many steps.
+    /// The output ended, this many steps after the last change.
     Ended(u64),
     /// All original values were again those of the run without changes.
     Same,

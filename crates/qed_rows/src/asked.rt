@@ -15,14 +15,14 @@ pub(crate) fn words(alloc: Global, line: &str) -> Result<Vec<String>, AllocError
     Ok(words)
 }
 
-/// A file, and how its test is transformed.
+/// A file, and the options for its test.
 #[derive(Drop)]
 pub struct Asked {
     pub name: Name,
     pub options: Options,
 }
 
-/// The file and the options of a line, as `plan` takes them; None where it does not.
+/// The file and the options of a line, as `plan` takes them; None if it does not.
 pub(crate) fn planned(alloc: Global, line: &str) -> Result<Option<Asked>, AllocError>
     ensures { IfOk result (λ asked. IfSome asked (λ a. AreSoundOptions a.options)) }
 {
@@ -34,7 +34,7 @@ pub(crate) fn planned(alloc: Global, line: &str) -> Result<Option<Asked>, AllocE
     }
 }
 
-/// The changes of a line, as `--fault` takes them, in the order of their steps; None where it does not.
+/// The changes of a line, as `--fault` takes them, in the order of their steps; None if it does not.
 pub(crate) fn changes(alloc: Global, line: &str) -> Result<Option<Changes>, AllocError> {
     let mut all = Vec::new(alloc);
     for word in line.split(' ') {

@@ -20,7 +20,7 @@ pub(crate) fn printed(alloc: Global, out: &[u8], code: u8) -> Result<String, All
     format!(in alloc; "{text}= {code}\n")
 }
 
-/// Makes a call, and gives the exit code.
+/// Makes a call, and returns the exit code.
 pub(crate) fn made<S: Shelf, K: Sink>(
     alloc: Global,
     words: &[String],
@@ -30,8 +30,8 @@ pub(crate) fn made<S: Shelf, K: Sink>(
     qed(alloc, words, shelf, out, &mut Silent::new()).code()
 }
 
-/// Makes a call, and gives what a line asks of it: what a person is told of it on a terminal, the size and the digest of what it
-/// prints, or this itself, with the exit code.
+/// Makes a call, and returns what a line asks for, with the exit code: the text on a terminal's
+/// standard error, or the size and the digest of what the call prints, or all that it prints.
 pub(crate) fn call(
     alloc: Global,
     bench: &mut Bench,
@@ -57,13 +57,13 @@ pub(crate) fn call(
     }
 }
 
-/// What words ask for.
+/// What words ask for, as text.
 fn ask(alloc: Global, words: &[String]) -> Result<String, AllocError> {
     let answer = order(alloc, words);
     format!(in alloc; "{answer:?}\n")
 }
 
-/// What a line gives of which the rest are the words of a call.
+/// The answer to a line whose rest is the words of a call.
 pub(crate) fn tell_call(
     alloc: Global,
     bench: &mut Bench,
@@ -77,7 +77,7 @@ pub(crate) fn tell_call(
     }
 }
 
-/// The number of an exit code, of those that there are.
+/// The number of an exit code from 0 to 7; else 255.
 fn number_of(code: ExitCode) -> u8 {
     for number in 0..=7 {
         if code == ExitCode::from(number) {
@@ -87,7 +87,7 @@ fn number_of(code: ExitCode) -> u8 {
     u8::MAX
 }
 
-/// What the program prints and its exit code, where the machine hands it these arguments.
+/// What the program prints and its exit code, if the machine passes it these arguments.
 fn hand_over(
     alloc: Global,
     bench: &mut Bench,
@@ -104,8 +104,8 @@ fn hand_over(
     printed(alloc, out.bytes(), number_of(code))
 }
 
-/// The same for the arguments of a line, of which the first is the program's name; `unreadable` ones; and `starved` ones, for
-/// which the machine had no memory.
+/// As `hand_over`, for the arguments of a line; the first is the program's name. `unreadable`
+/// stands for arguments that cannot be read, `starved` for want of memory for them.
 pub(crate) fn start(
     alloc: Global,
     bench: &mut Bench,

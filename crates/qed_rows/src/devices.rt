@@ -10,7 +10,7 @@ use std::os::unix::fs::symlink;
 use std::{fs, io};
 use texts::number;
 
-/// A writer that takes at most two bytes at once, says once that a signal came, and has room for so many bytes.
+/// A writer that takes at most two bytes at once, says once that a signal came, and has room for a number of bytes.
 #[derive(Drop)]
 struct Narrow {
     taken: Vec<u8>,
@@ -37,7 +37,7 @@ impl Write for Narrow {
     }
 }
 
-/// Does what the words behind a number ask for, and prints it to a narrow writer with room for so many bytes.
+/// Does what the words behind a number ask for, and prints it to a narrow writer with room for that many bytes.
 fn print_narrow(alloc: Global, bench: &mut Bench, line: &str) -> Result<String, AllocError> {
     let (room, rest) = line.split_once(' ').unwrap_or((line, ""));
     let mut out = WriterSink::over(Narrow {
@@ -74,7 +74,7 @@ fn disk(rt: &HostRuntime, bench: &Bench, line: &str) -> Result<String, AllocErro
     printed(alloc, out.bytes(), code)
 }
 
-/// Moves a file between the bench and the machine, or links one of the machine's names to another; tells whether that was done.
+/// Moves a file between the bench and the machine, or links one of its names to another. Returns whether it did.
 fn place(rt: &HostRuntime, bench: &mut Bench, what: &str, rest: &str) -> Result<bool, AllocError> {
     match what {
         "put" => match bench.shelf.file(rest) {
@@ -95,7 +95,7 @@ fn place(rt: &HostRuntime, bench: &mut Bench, what: &str, rest: &str) -> Result<
     }
 }
 
-/// What is printed of a file that is moved or linked.
+/// What is printed about a file that is moved or linked.
 fn move_file(
     rt: &HostRuntime,
     bench: &mut Bench,
@@ -119,7 +119,7 @@ fn kind(rt: &HostRuntime, name: &str) -> &'static str {
     }
 }
 
-/// What a line about the machine's files, or about other shelves and sinks, gives; None where it is none.
+/// The answer to a line about the machine's files, or about other shelves and sinks; None for any other line.
 pub(crate) fn tell_machine(
     rt: &HostRuntime,
     bench: &mut Bench,

@@ -7,7 +7,7 @@ use elf_types::{Bytes, ElfError, ElfFile, Rela, Section, Segment, Symbol};
 use report::error_text;
 use std::alloc::{AllocError, Global};
 
-/// A name as text, `-` where it is empty and `?` where it is none.
+/// A name as text: `-` if it is empty, `?` if it is not UTF-8.
 fn named(name: &Bytes) -> &str {
     match str::from_utf8(name.as_slice()) {
         Ok("") => "-",

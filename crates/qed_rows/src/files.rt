@@ -2,12 +2,12 @@
 
 use std::alloc::{AllocError, Global};
 
-/// The first bytes, so many, or all where there are fewer.
+/// The first `count` bytes, or all if there are fewer.
 pub(crate) fn first(bytes: &[u8], count: usize) -> &[u8] {
     bytes.get(..count).unwrap_or(bytes)
 }
 
-/// A copy in which other bytes stand from a place on.
+/// A copy with other bytes from a place on.
 pub(crate) fn with(
     alloc: Global,
     old: &[u8],

@@ -65,7 +65,7 @@ fn closed_line(alloc: Global, bench: &Bench, rest: &str) -> Result<Option<String
     Ok(Some(closing(alloc, bytes, change.step, &change.place)?))
 }
 
-/// What a line about a layer gives; None where it is none.
+/// The answer to a line about a layer; None for any other line.
 pub(crate) fn tell_layer(
     alloc: Global,
     bench: &Bench,

@@ -1,4 +1,4 @@
-//! Lines that are made of words and numbers, one behind the other.
+//! Lines of words and numbers, one behind the other.
 
 use std::alloc::{AllocError, Global};
 

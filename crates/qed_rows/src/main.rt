@@ -1,5 +1,5 @@
-//! Rows: files of lines, each of which puts a file on a shelf in memory, makes a call, or shows what came of it.
-//! Each line is printed, and below it what it gave. The format is in `README.md`.
+//! Rows: files of lines. Each line puts a file on a shelf in memory, makes a call, or shows what
+//! came of it. Each line is printed, with its answer below it. The format is in `README.md`.
 #![tactic(auto)]
 
 mod asked;
@@ -21,14 +21,14 @@ use crate::bench::Bench;
 use crate::row::tell;
 use std::{env, fs, io};
 
-/// Prints a line, and below it what it gives.
+/// Prints a line, and its answer below it.
 fn print_line(rt: &HostRuntime, bench: &mut Bench, line: &str) -> io::Result<()> {
     println!(rt; "{line}")?;
     let told = tell(rt, bench, line)?;
     print!(rt; "{told}")
 }
 
-/// Prints the lines of a file of rows, each with what it gives.
+/// Prints the lines of a file of rows, each with its answer.
 fn print_rows(rt: &HostRuntime, rows: &str) -> io::Result<()> {
     let mut bench = Bench::new(rt.alloc());
     for line in rows.lines() {

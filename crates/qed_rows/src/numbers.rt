@@ -3,7 +3,7 @@
 use std::alloc::{AllocError, Global};
 use texts::{number, split_once};
 
-/// A number, and the one behind a mark; where no mark is there, this other number.
+/// A number, and the one behind a mark; without the mark, `other`.
 fn pair(word: &str, mark: u8, other: u64) -> Option<(u64, u64)> {
     match split_once(word.as_bytes(), mark) {
         Some((first, second)) => Some((number(first)?, number(second)?)),
@@ -11,7 +11,7 @@ fn pair(word: &str, mark: u8, other: u64) -> Option<(u64, u64)> {
     }
 }
 
-/// Appends the low bytes of a number, so many, the lowest first.
+/// Appends the `width` low bytes of a number, the lowest first.
 fn push(bytes: &mut Vec<u8>, width: usize, value: u64) -> Result<(), AllocError> {
     for byte in value.to_le_bytes().into_iter().take(width) {
         bytes.push(byte)?;
@@ -19,7 +19,7 @@ fn push(bytes: &mut Vec<u8>, width: usize, value: u64) -> Result<(), AllocError>
     Ok(())
 }
 
-/// The bytes of numbers with spaces between them, each of so many bytes: `0x13`, or `0*24` for 24 times; None where a word is no number.
+/// The bytes of numbers, `width` bytes each: `0x13`, or `0*24` for 24 times. None if a word is not a number.
 pub(crate) fn bytes_of(
     alloc: Global,
     width: usize,
@@ -37,8 +37,8 @@ pub(crate) fn bytes_of(
     Ok(Some(bytes))
 }
 
-/// So many records of the numbers with spaces between them, each of 8 bytes: `0x40+8` grows from record to record, `7` stays; None where a
-/// word is no number.
+/// `count` records of the numbers with spaces between them, 8 bytes each: `0x40+8` grows from
+/// record to record, `7` stays. None if a word is not a number.
 pub(crate) fn records_of(
     alloc: Global,
     count: u64,

@@ -1,4 +1,4 @@
-//! A line, and what it gives.
+//! A line, and its answer.
 
 use crate::bench::Bench;
 use crate::calls::{call, start, tell_call};
@@ -19,7 +19,7 @@ fn show(alloc: Global, bench: &Bench, name: &str) -> Result<String, AllocError> 
     format!(in alloc; "{digest}\n")
 }
 
-/// Appends bytes to a file, which is made where it is not there.
+/// Appends bytes to a file, and makes the file if it is missing.
 fn append(alloc: Global, bench: &mut Bench, name: &str, new: &[u8]) -> Result<bool, AllocError> {
     let old = bench.shelf.file(name).unwrap_or(&[]);
     let all = with(alloc, old, old.len(), new)?;
@@ -27,7 +27,7 @@ fn append(alloc: Global, bench: &mut Bench, name: &str, new: &[u8]) -> Result<bo
     Ok(true)
 }
 
-/// Appends numbers to a file, each of so many bytes.
+/// Appends numbers to a file, `width` bytes each.
 fn put(
     alloc: Global,
     bench: &mut Bench,
@@ -47,7 +47,7 @@ fn put_line(alloc: Global, bench: &mut Bench, name: &str, text: &str) -> Result<
     append(alloc, bench, name, text.as_bytes())
 }
 
-/// Appends records of numbers to a file, so many.
+/// Appends a number of records to a file.
 fn put_records(
     alloc: Global,
     bench: &mut Bench,
@@ -93,7 +93,7 @@ fn cut(alloc: Global, bench: &mut Bench, name: &str, rest: &str) -> Result<bool,
     Ok(true)
 }
 
-/// Plans a fault: `load N` or `store N KEEP` of the shelf, `write N` of the sink, or `most N` of what a write takes.
+/// Plans a fault: `load N` or `store N KEEP` of the shelf, `write N` of the sink; or `most N`: a write's bytes.
 fn plan(bench: &mut Bench, kind: &str, rest: &str) -> Result<bool, AllocError> {
     let (call, keep) = rest.split_once(' ').unwrap_or((rest, ""));
     let Some(call) = number(call.as_bytes()) else {
@@ -108,7 +108,7 @@ fn plan(bench: &mut Bench, kind: &str, rest: &str) -> Result<bool, AllocError> {
     Ok(true)
 }
 
-/// Does what a line of two words and a rest says, and tells whether it could be read.
+/// Does what a line of two words and a rest says. Returns whether the line could be read.
 fn change(
     alloc: Global,
     bench: &mut Bench,
@@ -133,7 +133,7 @@ fn change(
     }
 }
 
-/// What a line about a file gives: nothing where it only changes the file.
+/// The answer to a line about a file: nothing if it only changes the file.
 fn tell_file(
     rt: &HostRuntime,
     bench: &mut Bench,
@@ -154,7 +154,7 @@ fn tell_file(
     String::from_str(alloc, "cannot be read\n")
 }
 
-/// What a line gives: nothing where it only changes files, and else a text that ends in a newline.
+/// The answer to a line: nothing if it only changes files, else a text that ends in a newline.
 pub(crate) fn tell(rt: &HostRuntime, bench: &mut Bench, line: &str) -> Result<String, AllocError> {
     let alloc = rt.alloc();
     if line.is_empty() || line.starts_with('#') {

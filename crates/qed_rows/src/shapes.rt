@@ -6,7 +6,7 @@ use qed_model::{Bounds, Shape};
 use std::alloc::{AllocError, Global};
 use texts::number;
 
-/// What `WORDS RANGES ROUND MOST` and the words behind them describe; None where they are no shape.
+/// The shape that `WORDS RANGES ROUND MOST` and the words behind them describe; None if they describe none.
 fn shape_of(text: &str) -> Option<Shape> {
     let mut words = text.split(' ');
     let mut shape = Shape {

@@ -1,4 +1,4 @@
-//! What is told of strikes: what single ones show, and which places are closed.
+//! Rows about strikes: what single strikes show, and which places are closed.
 ghost use Rattle.qed_model.specs.Weave.SoundOptions.{AreSoundOptions};
 
 use crate::file_parts::{refusal, text_of};
@@ -21,7 +21,7 @@ pub(crate) fn reach(alloc: Global, bytes: &[u8], options: &Options) -> Result<St
     format!(in alloc; "reach {reach} snapshots {snapshots}\n")
 }
 
-/// What changes of the run of a test's output show, as a campaign of that one strike tells it.
+/// What changes of the run of a test's output show, as a campaign of that one strike prints it.
 pub(crate) fn strike(
     alloc: Global,
     bytes: &[u8],
@@ -50,7 +50,7 @@ pub(crate) fn strike(
     text_of(alloc, &text)
 }
 
-/// Whether a place is closed after so many steps of a file.
+/// Whether a place is closed after `steps` steps of a file.
 pub(crate) fn closing(
     alloc: Global,
     bytes: &[u8],

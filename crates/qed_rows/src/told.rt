@@ -1,4 +1,4 @@
-//! What is told of a test: its places, its code and data, its leaders and its blocks.
+//! Rows about a test: its places, its code and data, its leaders and its blocks.
 ghost use Rattle.qed_model.specs.Weave.SoundOptions.{AreSoundOptions};
 ghost use Rattle.tests.specs.Admission.Test.{IsTestOf};
 
@@ -103,7 +103,7 @@ fn reaches(
     Ok(())
 }
 
-/// What is told of a test, or the words of it that are reached.
+/// All lines about a test, or its reached words.
 fn told(
     alloc: Global,
     file: &ElfFile,
@@ -124,7 +124,7 @@ fn told(
     Ok(lines.into_text())
 }
 
-/// What is told of the test that bytes are, or the words of it that are reached, or why they are none.
+/// All lines about the test with these bytes, or its reached words, or why they are not a test.
 pub(crate) fn test(
     alloc: Global,
     bytes: &[u8],

@@ -1,4 +1,4 @@
--- The file that a command reads: what is answered over it, as to its status and to what is stored.
+-- The file that a command reads: the status of the answer over it, and what the answer stores.
 use Rattle.std.proofs.Common.{◌≡◌, ℕ, List, Option, None, Some, IfSome, inl, inr, sym, ap, ◌∙◌, subst, arith}
 use Rattle.std.specs.Prelude.{IsSomeAnd}
 use Rattle.qed_io.specs.declared.shelf.Shelf.{Ghosts}
@@ -16,13 +16,13 @@ use Rattle.tests.proofs.Lemmas.{read_or_refused, one_file}
 use Rattle.transform.proofs.OneAnswer.{same_refusal, one_cause, memory_only}
 use Rattle.qed_top.proofs.Statuses.{IsRefusal, Printed, error_refuses, refusal_refuses, refusal_printed}
 
--- ---- what an answer tells
--- its status goes with a text, and what it stores has this name
+-- ---- the status and the stored file of an answer
+-- an answer has a status with a text, and stores only a file of this name
 pub record Tells (name : Option (List ℕ)) (answer : Answer) : Type 0 where
   pub printed : Printed answer.status
   pub named : IfSome answer.stored (λ s. name ≡ Some s.name)
 
--- it stores nothing
+-- the answer stores nothing
 pub tells : (status : Status) {line : List ℕ} (name : Option (List ℕ)) (answer : Answer) → Printed status → PrintsOnly status line answer → Tells name answer
 tells status name answer p a = record {
   printed = subst Printed (sym a.status) p;
@@ -32,7 +32,7 @@ tells status name answer p a = record {
 pub refusal_tells : (status : Status) {line : List ℕ} (name : Option (List ℕ)) (answer : Answer) → IsRefusal status → PrintsOnly status line answer → Tells name answer
 refusal_tells status name answer r a = tells status name answer (refusal_printed status r) a
 
--- it stores a file
+-- the answer stores a file
 named_of : (stored : Option Stored) (name file : List ℕ) → IsSomeAnd stored (λ s. (s.name ≡ name) × (s.bytes ≡ file)) → IfSome stored (λ s. Some name ≡ Some s.name)
 named_of None name file s = tt
 named_of (Some x) name file s = ap Some (sym s.0)
@@ -47,7 +47,7 @@ calls_tells limit bytes rose W name answer h (read_fault f) = tells ReadFault na
 calls_tells limit bytes rose W name answer h (too_long t) = tells Limit name answer tt t.plain
 calls_tells limit bytes rose W name answer h (within small w) = h w
 
--- over bytes that are read, and over a file whose segments are in memory
+-- the answer over bytes that are read, and over a file whose segments fit into memory
 pub read_tells : (bytes : List ℕ) (P : ElfFile → Type 0) (answer : Answer) → ((f : ElfFile) → P f → Tells None answer) → ReadOn bytes P answer → Tells None answer
 read_tells bytes P answer h (not_read u) = refusal_tells (error_status u.error) None answer (error_refuses u.error) u.plain
 read_tells bytes P answer h (read_on f r p) = h f p
@@ -56,12 +56,12 @@ pub memory_tells : (f : ElfFile) (W : Type 0) (answer : Answer) → (W → Tells
 memory_tells f W answer h (too_large a) = tells Limit None answer tt a.plain
 memory_tells f W answer h (fits small w) = h w
 
--- over bytes that are transformed
+-- the answer over bytes that are transformed
 pub made_tells : (bytes : List ℕ) (o : Options) (Uses : Type 0) (name : Option (List ℕ)) (answer : Answer) → (Uses → Tells name answer) → Makes bytes o Uses answer → Tells name answer
 made_tells bytes o Uses name answer h (refused r) = refusal_tells (refusal_status r.error) name answer (refusal_refuses r.error) r.plain
 made_tells bytes o Uses name answer h (made m) = h m
 
--- a failed store is one of that name
+-- without a failed store of this name, the answer's store did not fail
 pub no_store :
     (name : Option (List ℕ)) (stored : Option Stored) (rose : List ℕ → Type 0) → IfSome stored (λ s. name ≡ Some s.name)
     → IfSome name (λ n. rose n → ⊥) → StoreRose stored rose → ⊥
@@ -104,12 +104,12 @@ made_settled bytes o Uses Then answer t can h (made m) (not_made e x n b) = absu
 made_settled bytes o Uses Then answer t can h (made m) (is_made f u) = h m u
 
 -- ---- counts of faults
--- counts that did not change in either of two parts
+-- counts that changed in neither of two parts of a call
 module _ {S : Type 0} (shelf : Ghosts S) (old middle new : S) where
   pub steady_both : IsSteady shelf old middle → IsSteady shelf middle new → IsSteady shelf old new
   steady_both a b = record { load = λ name. b.load name ∙ a.load name; store = λ name. b.store name ∙ a.store name }
 
-  -- the same, where one part may tell of a read fault
+  -- the counts are unchanged, unless one part reports a read fault
   pub steady_since : (answer : Answer) → IsSteady shelf old middle → SteadyOrReadFault (IsSteady shelf middle new) answer → SteadyOrReadFault (IsSteady shelf old new) answer
   steady_since answer a (inl b) = inl (steady_both a b)
   steady_since answer a (inr plain) = inr plain

@@ -1,4 +1,4 @@
--- From what was decided and carried out to how the call ends.
+-- From a decided and carried-out answer to how the call ends.
 use Rattle.std.proofs.Common.{◌≡◌, ◌≢◌, ℕ, ◌-◌, Bool, true, false, List, [], Option, None, Some, IfSome, ◌⊎◌, inl, inr, refl, sym, ap, ◌∙◌, subst, arith}
 use Rattle.std.specs.Prelude.{MatchOption, MatchResult, Result, Ok, Err, IfOk, IsSome, IsSomeAnd, slice_index, All}
 use Rattle.std.proofs.lemmas.List.Elements.{All-head, recursion_from_All}
@@ -44,7 +44,7 @@ use Rattle.qed_top.proofs.Calls.{Tells, steady_then, tells, refusal_tells, store
 use Rattle.qed_top.proofs.WorldEnds.{files_later, files_settled, files_tells}
 
 -- ---- counts
--- a count that rose has risen later too, and since earlier
+-- a count that rose in a part of the call rose in all of it
 pub rose_later : (before middle now : List ℕ → ℕ) → NoneFell middle now → (name : List ℕ) → RoseAt before middle name → RoseAt before now name
 rose_later before middle now kept name rose = omega (arith, kept name)
 
@@ -52,7 +52,7 @@ pub rose_since : (before middle now : List ℕ → ℕ) → NoneFell before midd
 rose_since before middle now kept name rose = omega (arith, kept name)
 
 -- ---- what is meant
--- what is meant stays so when more counts have risen
+-- an answer keeps its meaning if more counts have risen
 source_later :
     (order : Order) (source : Option (List ℕ)) (files : Files) (rose later : List ℕ → Type 0) → ((name : List ℕ) → rose name → later name) → (answer : Answer)
     → CallsBy order source files rose answer → CallsBy order source files later answer
@@ -77,7 +77,7 @@ pub meant_later :
     → WordsCallFor words loads rose answer → WordsCallFor words loads later answer
 meant_later words loads rose later h answer m = words_later (asked words) loads rose later h answer m
 
--- ---- what is meant has a status that goes with a text, and stores no file but that of the order
+-- ---- the meant answer has a status with a text, and stores only the order's file
 runs_tells :
     (bytes : List ℕ) (steps : ℕ) (changes : List Change) (jumps : List ℕ) (dump : Option (ℕ × ℕ)) (answer : Answer)
     → ReadOn bytes (λ f. FileRuns f steps changes jumps dump answer) answer → Tells None answer
@@ -104,13 +104,13 @@ trapped_printed : (trapped : Option ℕ) → Printed (campaign_status trapped)
 trapped_printed None = tt
 trapped_printed (Some pc) = tt
 
--- what is told of the word at an address
+-- the answer about the word at an address
 abbrev TellsNumber : Explained → ℕ → Answer → Option ℕ → Type 0
 TellsNumber x a answer number =
     MatchOption number (PrintsOnly Refused (no_word_line a) answer)
     (λ n. IsSomeAnd (role_at x.roles.items (a - x.base)) (λ role. PrintsOnly Done (word_text role a (slice_index x.words.items n) x.file.symbols) answer))
 
--- it has its status, and nothing is stored
+-- the answer about a word has its status, and stores nothing
 role_told :
     (x : Explained) (a n : ℕ) (answer : Answer) (r : Option Role) → IsSomeAnd r (λ role. PrintsOnly Done (word_text role a (slice_index x.words.items n) x.file.symbols) answer)
     → (answer.status ≡ Done) × Tells None answer
@@ -160,14 +160,14 @@ words_tells : (ask : Result Order Reason) (loads : Loads) (rose : List ℕ → T
 words_tells (Ok order) loads rose answer m = order_tells order loads rose answer m
 words_tells (Err reason) loads rose answer m = tells Usage None answer tt m
 
--- what was done ends the call with the answer's status
+-- a carried-out answer ends the call with its status
 did_ends : (call : Call) (loads : Loads) (status : Status) → Printed status → IsAnswered call loads status → EndsOver call loads status
 did_ends call loads WriteFault p d = absurd p
 did_ends call loads Memory p d = absurd p
 did_ends call loads status p d = d
 
 -- ---- how the call ends
--- an answer that stores a file tells of no read fault
+-- an answer that stores a file reports no read fault
 steady_store : (Steady : Type 0) (answer : Answer) → SteadyOrReadFault Steady answer → IsSome answer.stored → Steady
 steady_store Steady answer (inl steady) some = steady
 steady_store Steady answer (inr plain) some = let none = plain.stored in absurd (cc)
@@ -176,8 +176,8 @@ steady_other : (Steady : Type 0) (answer : Answer) → SteadyOrReadFault Steady 
 steady_other Steady answer (inl steady) other = steady
 steady_other Steady answer (inr plain) other = absurd (other plain.status)
 
--- ---- what can be expected
--- what is answered has the status that is decided
+-- ---- what to expect
+-- the answer has the decided status
 runs_settled :
     (bytes : List ℕ) (steps : ℕ) (changes : List Change) (jumps : List ℕ) (dump : Option (ℕ × ℕ)) (answer : Answer) (t : Status)
     → ReadOn bytes (λ f. FileRuns f steps changes jumps dump answer) answer → ReadDecides bytes (ran_status steps changes) t → answer.status ≡ t
@@ -238,7 +238,7 @@ over_settled (Asm text output) bytes answer t m d = asm_settled bytes output ans
 over_settled (Harts files turns steps) bytes answer t m d = absurd m
 over_settled (Tell topic) bytes answer t m d = m.status ∙ sym d
 
--- what an order decides by the name of its file
+-- the status that an order decides by the name of its file
 abbrev DecidesBy : Order → Option (List ℕ) → Files → Status → Type 0
 DecidesBy order source files status =
     MatchOption source (DecidesOver order [] status)
@@ -251,7 +251,7 @@ source_settled order None files rose answer t calm m d = over_settled order [] a
 source_settled order (Some name) files rose answer t calm m d =
     calls_settled (source_limit order) (file_bytes files name) (rose name) (AnswersOver order (file_bytes files name) answer) (DecidesOver order (file_bytes files name) t) answer t (over_settled order (file_bytes files name) answer t) calm m d
 
--- what is known of all names is known of the one
+-- what holds of all names holds of the one name
 calm_one : (source : Option (List ℕ)) (rose : List ℕ → Type 0) → All (λ name. rose name → ⊥) (listed source) → IfSome source (λ name. rose name → ⊥)
 calm_one None rose calm = tt
 calm_one (Some name) rose calm = All-head (λ name. rose name → ⊥) name [] calm
@@ -303,7 +303,7 @@ answered call status e =
     loads_map call.old (λ loads. EndsOver call loads status) (HoldsOver call status)
     (λ loads o. record { headline = holds_headline call loads status o; ends = o; complete = ends_complete call loads status o }) e
 
--- what was decided on a shelf, from one state to another, and then carried out
+-- an answer decided on a shelf, from one state to another, and then carried out
 module _ {S K : Type 0} (shelf : shelves.Ghosts S) (sink : sinks.Ghosts K) (words : List (List ℕ)) (start decided end : S) (first last : K) (answer : Answer) (same : shelf.files decided ≡ shelf.files start) (meant : OverLoads (shelf.files start) (λ f. WordsCallFor words f (LoadRose shelf start decided) answer)) (loads : NoneFell (shelf.load_faults decided) (shelf.load_faults end)) (stores : NoneFell (shelf.store_faults start) (shelf.store_faults decided)) where
   abbrev pub this : Call
   this = call_on shelf sink words start end first last
@@ -355,7 +355,7 @@ module _ {S K : Type 0} (shelf : shelves.Ghosts S) (sink : sinks.Ghosts K) (word
       → Answers this Memory
   memory_ended before carried calm part = ends Memory (λ f m. short f m (steady_then shelf start decided end answer before carried) calm part)
 
--- nothing was decided
+-- no answer was decided
 pub soon_ended :
     {S K : Type 0} (shelf : shelves.Ghosts S) (sink : sinks.Ghosts K) (words : List (List ℕ)) (start decided : S) (first : K) → shelf.files decided ≡ shelf.files start
     → IsSteady shelf start decided → Answers (call_on shelf sink words start decided first first) Memory

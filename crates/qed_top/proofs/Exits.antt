@@ -13,7 +13,7 @@ use Rattle.qed_top.specs.declared.status.Status.TheVariants.{Memory}
 use Rattle.qed_top.proofs.Endings.{soon_ended}
 
 module _ {S K : Type 0} (shelf : shelves.Ghosts S) (sink : sinks.Ghosts K) (words : List (List ℕ)) (code : ExitCode) (start : S) (first : K) where
-  -- the call was made with other names for the same words
+  -- the call was made, with other names for these words
   pub ended_exits :
       (end : S) (last : K) (called : List (List ℕ)) (status : Status) → called ≡ words → exit_status code ≡ status_code status
       → Answers (call_on shelf sink called start end first last) status → Exits (call_on shelf sink words start end first last) code

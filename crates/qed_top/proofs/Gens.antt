@@ -1,4 +1,4 @@
--- What `gen` comes to: no rule refuses its test and no limit but that of new code is exceeded, and both runs have ended.
+-- The outcome of `gen`: no rule refuses its test, no limit but that of new code is exceeded, and both runs have ended.
 use Rattle.std.proofs.Common.{◌≡◌, ◌≢◌, ◌⊎◌, inl, inr, ℕ, ◌≤◌, List, refl, sym, ap, ◌∙◌, subst, arith}
 use Rattle.machine.specs.declared.limits.Limit.TheVariants as limit
 use Rattle.machine.specs.declared.outcome.Outcome.TheVariants.{Ended}
@@ -38,7 +38,7 @@ module _ (seed size : ℕ) (some : 1 ≤ size) (most : size ≤ 60000) where
       absurd (omega (arith, c.over, c.size, within.size))
   only_large error.Memory c = inl refl
 
-  -- so what is answered is that the new code would be too large
+  -- the answer is that the new code would be too large
   large_from : (e : TransformError) (answer : Answer) → IsLarge e → HasCause (test_bytes seed size) default_options e → e ≢ error.Memory → PrintsOnly (refusal_status e) (refusal_line e) answer → HasLargeCode seed size answer
   large_from e answer (inl memory) cause known plain = absurd (known memory)
   large_from e answer (inr large) cause known plain = record {
@@ -55,7 +55,7 @@ module _ (seed size : ℕ) (some : 1 ≤ size) (most : size ≤ 60000) where
   own_run_ended own r =
       subst (λ p. HasEnded p (test_steps size)) (sym r.run) (own_ended seed size most_steps some most (omega arith) r.file r.read)
 
-  -- and so has the output's
+  -- the output's run has ended
   pub woven_run_ended :
       (output : List ℕ) (plan : Plan) → Transforms (test_bytes seed size) default_options output plan → (woven : Progress)
       → IsRunOf output woven → woven.state.outcome ≡ Ended

@@ -19,7 +19,7 @@ use Rattle.qed_top.proofs.Statuses.{IsRefusal, refusal_refuses}
 
 -- ---- what Done means
 module _ (input output : List ℕ) (o : Options) where
-  -- what was made of IN, and stored as OUT
+  -- the output was made of IN, and stored as OUT
   abbrev MadeOf : List ℕ → Answer → Type 0
   MadeOf bytes answer = (length bytes ≤ limit_of FileBytes) × IsMade bytes o (Delivers output) answer
 

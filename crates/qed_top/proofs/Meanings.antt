@@ -1,4 +1,4 @@
--- From what was read and made to what is meant.
+-- From what was read and made to the meaning of the words.
 use Rattle.std.proofs.Common.{◌≡◌, ◌≤◌, ◌<◌, ◌+◌, ℕ, Bool, false, List, [], length, Option, None, Some, IfSome, refl, ap, sym, ◌∙◌, subst, arith}
 use Rattle.std.specs.Prelude.{MatchOption, MatchResult, Result, Ok, Err, replicate, unwrap_or, cond}
 use Rattle.std.specs.Cmp.{eq_by_cmp_equiv}
@@ -21,7 +21,7 @@ use Rattle.qed_top.specs.declared.status.Status.{Status}
 use Rattle.qed_top.specs.declared.status.Status.TheVariants as status
 
 -- ---- files
--- what holds of each file system holds of the one that is told
+-- what holds of all files holds of those that contracts know
 pub always : (told : Option Files) (P : Files → Type 0) → ((files : Files) → P files) → OverFiles told P
 always None P h = record { files = empty; same = tt; holds = h empty }
 always (Some f) P h = record { files = f; same = refl; holds = h f }
@@ -33,7 +33,7 @@ told_or : (told : Option Files) (P : Files → Type 0) (files : Files) → P fil
 told_or None P files p h = record { files = files; same = tt; holds = p }
 told_or (Some f) P files p h = record { files = f; same = refl; holds = h }
 
--- the same of the files at each load
+-- what holds of the files at all loads holds of those that contracts know
 pub always_loads : (told : Option Files) (P : Loads → Type 0) → ((loads : Loads) → P loads) → OverLoads told P
 always_loads None P h = record { loads = λ k. empty; same = tt; holds = h (λ k. empty) }
 always_loads (Some f) P h = record { loads = λ k. f; same = λ k. refl; holds = h (λ k. f) }
@@ -45,18 +45,18 @@ pub same_each : (told : Option Files) (files : Files) → IfSome told (λ f. f �
 same_each None files e = tt
 same_each (Some f) files e = λ k. e
 
--- at each load the same files
+-- equal files at each load
 pub over_loads : (told : Option Files) (P : Files → Type 0) → OverFiles told P → OverLoads told (λ loads. P (loads 0))
 over_loads told P o = record { loads = λ k. o.files; same = same_each told o.files o.same; holds = o.holds }
 
--- there are files with these bytes under a name
+-- some files have these bytes under a name
 file_bytes-insert : (files : Files) (name bytes : List ℕ) → file_bytes (insert files name bytes) name ≡ bytes
 file_bytes-insert files name bytes =
     ap (λ o. unwrap_or o []) (get-insert nat_list_cmp_total files name bytes name)
     ∙ ap (λ b. unwrap_or (cond b (Some bytes) (get files name)) []) ((eq_by_cmp_equiv nat_list_cmp_total).refl name)
 
 -- ---- meanings
--- more counts may have risen, and what is answered within the limit may be said otherwise
+-- more counts may have risen, and the answer within the limit may be put otherwise
 pub calls_more :
     (limit : Limit) (bytes : List ℕ) (rose later V W : Type 0) (answer : Answer) → (rose → later) → (V → W) → CallsFor limit bytes rose V answer
     → CallsFor limit bytes later W answer
@@ -64,7 +64,7 @@ calls_more limit bytes rose later V W answer h w (read_fault r) = read_fault (re
 calls_more limit bytes rose later V W answer h w (too_long t) = too_long t
 calls_more limit bytes rose later V W answer h w (within small v) = within small (w v)
 
--- bytes that were loaded are those under the name
+-- loaded bytes are those under the name
 pub over_have :
     (told : Option Files) (name bytes : List ℕ) (P : List ℕ → Type 0) → IfSome told (λ f. bytes ≡ file_bytes f name) → P bytes
     → OverFiles told (λ f. P (file_bytes f name))
@@ -73,7 +73,7 @@ over_have told name bytes P loaded p =
     over_map told (λ f. bytes ≡ file_bytes f name) (λ f. P (file_bytes f name)) (λ f e. subst P e p)
     (told_or told (λ f. bytes ≡ file_bytes f name) (insert empty name bytes) (sym same) loaded)
 
--- what a command with a limit means over the bytes under a name; W says what it answers over bytes within the limit
+-- the meaning of a command with a limit over the bytes under a name; W is the answer over bytes within the limit
 module _ (told : Option Files) (name : List ℕ) (limit : Limit) (rose : Type 0) (W : List ℕ → Type 0) (answer : Answer) where
   abbrev pub OverCommand : Type 0
   OverCommand = OverFiles told (λ f. CallsFor limit (file_bytes f name) rose (W (file_bytes f name)) answer)
@@ -96,14 +96,14 @@ module _ (told : Option Files) (name : List ℕ) (limit : Limit) (rose : Type 0)
       (λ f long. too_long (record { cause = long; plain = plain }))
       (told_or told (λ f. limit_of limit < length (file_bytes f name)) (insert empty name (replicate (limit_of limit + 1) 0)) long_file cause)
 
-  -- the bytes were not had, so nothing is said of what is answered over them
+  -- the bytes were not loaded, so the answer over them does not matter
   pub over_other : OverFiles told (λ f. CallsFor limit (file_bytes f name) rose ⊥ answer) → OverCommand
   over_other o =
       over_map told (λ f. CallsFor limit (file_bytes f name) rose ⊥ answer) (λ f. CallsFor limit (file_bytes f name) rose (W (file_bytes f name)) answer)
       (λ f m. calls_more limit (file_bytes f name) rose rose ⊥ (W (file_bytes f name)) answer (λ r. r) (λ none. absurd none) m) o
 
 -- ---- orders
--- what an order means by the name of its file
+-- the meaning of an order, by the name of its file
 abbrev pub CallsBy : Order → Option (List ℕ) → Files → (List ℕ → Type 0) → Answer → Type 0
 CallsBy order source files rose answer =
     MatchOption source (AnswersOver order [] answer)
@@ -124,7 +124,7 @@ over_source told order name rose answer e o =
     over_map told (λ f. CallsFor (source_limit order) (file_bytes f name) (rose name) (AnswersOver order (file_bytes f name) answer) answer) (λ f. SourceCallsFor order f rose answer)
     (λ f m. subst (λ (source : Option (List ℕ)). CallsBy order source f rose answer) (sym e) m) o
 
--- an order that reads no more than one
+-- an order that reads at most one file
 pub over_one :
     (told : Option Files) (order : Order) (rose : List ℕ → Type 0) (answer : Answer) → reads_several order ≡ false → OverFiles told (λ f. SourceCallsFor order f rose answer)
     → OverLoads told (λ loads. OrderCallsFor order loads rose answer)
@@ -132,7 +132,7 @@ over_one told (Harts files turns steps) rose answer e o = cc
 over_one told order rose answer e o = over_loads told (λ f. SourceCallsFor order f rose answer) o
 
 -- ---- words
--- what words mean by what they ask
+-- the meaning of words, by the order that they ask for
 abbrev pub WordsBy : Result Order Reason → Loads → (List ℕ → Type 0) → Answer → Type 0
 WordsBy ask loads rose answer = MatchResult ask (λ order. OrderCallsFor order loads rose answer) (λ reason. IsUsage reason answer)
 
@@ -151,7 +151,7 @@ over_usage told words reason rose answer e plain =
     always_loads told (λ loads. WordsCallFor words loads rose answer) (λ loads. subst (λ (ask : Result Order Reason). WordsBy ask loads rose answer) (sym e) plain)
 
 -- ---- `run`
--- what is told of its jumps, by a set of addresses
+-- the text about its jumps, by a set of addresses
 pub was_told :
     (f : ElfFile) (t : Test) (steps : ℕ) (changes : List Change) (reached : ℕ → Bool) (machine : Progress) (astray : Option (ℕ × ℕ))
     → ((a : ℕ) → reached a ≡ is_reached_word f t a) → machine ≡ begun (start (loaded_file f) zeros)
@@ -161,7 +161,7 @@ was_told f t steps changes reached machine astray same begins is =
     ∙ ap (λ m. first_astray reached m.state changes steps) begins
     ∙ ap (λ r. first_astray r (start (loaded_file f) zeros) changes steps) (λ i a. same a i)
 
--- the machine of a file that is small enough was run
+-- the machine of a small enough file was run
 pub was_run :
     (f : ElfFile) (steps : ℕ) (changes : List Change) (jumps : List ℕ) (dump : Option (ℕ × ℕ)) (ended : Progress) (o : Outcome) (text : List ℕ) (s : Status) (answer : Answer)
     → memory_bytes f.segments ≤ memory_limit → ended ≡ run_of f steps changes → o ≡ ended.state.outcome

@@ -1,4 +1,4 @@
--- Which status goes with what is answered.
+-- The status of each answer.
 use Rattle.elf_types.specs.declared.error.ElfError.{ElfError}
 use Rattle.elf_types.specs.declared.error.ElfError.TheVariants as error
 use Rattle.tests.specs.declared.admit.AdmitError.{AdmitError}
@@ -30,7 +30,7 @@ refusal_refuses (transform.Elf e) = error_refuses e
 refusal_refuses (transform.Admit e) = admit_refuses e
 refusal_refuses e = tt
 
--- ---- a status that goes with a text
+-- ---- a status with a text
 abbrev pub Printed : Status → Type 0
 Printed WriteFault = ⊥
 Printed Memory = ⊥

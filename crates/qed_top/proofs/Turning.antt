@@ -1,4 +1,4 @@
--- The files that `harts` reads one after the other, and the turns over them.
+-- The files that `harts` reads one after another, and the turns over them.
 use Rattle.std.proofs.Common.{◌≡◌, ◌+◌, ◌≤◌, ◌<◌, ℕ, zero, suc, List, [], ◌∷◌, ◌++◌, drop, length, get_or, Option, None, Some, IfSome, ◌⊎◌, inl, inr, sym, ap, ◌∙◌, subst, arith}
 use Rattle.std.specs.Prelude.{◌≢◌, All, slice_index}
 use Rattle.std.proofs.lemmas.List.{drop_more}
@@ -32,7 +32,7 @@ module _ (told : Option Files) (left : List (List ℕ)) (name : List ℕ) (names
   named : OverLoads told (λ loads. FilesCallFor (name ∷ names) fs turns steps loads rose answer) → OverLoads told (λ loads. FilesCallFor left fs turns steps loads rose answer)
   named o = subst (λ (ns : List (List ℕ)). OverLoads told (λ loads. FilesCallFor ns fs turns steps loads rose answer)) (sym split) o
 
-  -- it was read, and then the others
+  -- the file was read, and then the others
   pub read_next :
       (more : List ElfFile) (f : ElfFile) → more ≡ fs ++ f ∷ [] → OverFiles told (λ files. IsTaken (file_bytes files name) f)
       → OverLoads told (λ loads. FilesCallFor names more turns steps loads rose answer) → OverLoads told (λ loads. FilesCallFor left fs turns steps loads rose answer)
@@ -42,7 +42,7 @@ module _ (told : Option Files) (left : List (List ℕ)) (name : List ℕ) (names
     holds = within o.holds.small (read_on f o.holds.read (subst (λ (all : List ElfFile). FilesCallFor names all turns steps then.loads rose answer) pushed then.holds));
   })
 
-  -- it is not had, or not read
+  -- the file could not be loaded or read
   pub read_stops :
       (was : Type 0) → (was → rose name) → OverFiles told (λ files. CallsFor RunFileBytes (file_bytes files name) was (IsUnread (file_bytes files name) answer) answer)
       → OverLoads told (λ loads. FilesCallFor left fs turns steps loads rose answer)
@@ -55,7 +55,7 @@ module _ (told : Option Files) (left : List (List ℕ)) (name : List ℕ) (names
         holds = calls_more RunFileBytes bytes was (rose name) (IsUnread bytes answer) (ReadOn bytes next answer) answer h (λ u. not_read u) o.holds;
       })
 
--- a refusal is no want of memory, so its cause is known
+-- a refusal is not want of memory, so its cause is known
 pub known_cause : {A B E : Type 0} (e memory : E) → A ⊎ ((e ≡ memory) × B) → e ≢ memory → A
 known_cause e memory (inl a) other = a
 known_cause e memory (inr b) other = absurd (other b.0)
@@ -70,7 +70,7 @@ takers_all : (count : ℕ) (turns : Option (List ℕ)) → AreTurns count turns 
 takers_all count None t = All-each (λ hart. hart < count) count (λ i. i) (λ j l. l)
 takers_all count (Some harts) t = t.below
 
--- there is one, and each is below the count
+-- some hart makes the turns, and each that does is below the count
 pub takers_some : (count : ℕ) (turns : Option (List ℕ)) (harts : List ℕ) → 1 ≤ count → AreTurns count turns → harts ≡ takers count turns → 0 < length harts
 takers_some count None harts some t e = let n = length-each count (λ i. i) in let m = ap length e in omega (arith, some, n, m)
 takers_some count (Some given) harts some t e = let m = ap length e in omega (arith, t.some, m)
@@ -84,6 +84,6 @@ takers_below count many turns harts t e same k l =
     omega (arith, below, same)
 
 -- ---- the names that are left
--- the next one, and those behind it
+-- the next name, and those behind it
 pub split_at : {A : Type 0} (names : List A) (k : ℕ) (name : A) → k < length names → get_or names k name ≡ name → drop k names ≡ name ∷ drop (k + 1) names
 split_at names k name less item = drop_more names k name less ∙ ap (λ x. x ∷ drop (k + 1) names) item

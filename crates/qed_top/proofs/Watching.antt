@@ -1,4 +1,4 @@
--- A run without changes that tells of no jump astray and did not trap is steady, over addresses that are reached.
+-- A run without changes that reports no jump astray and did not trap is steady, over reached addresses.
 use Rattle.std.proofs.Common.{◌≡◌, ℕ, Bool, true, false, List, [], ◌∷◌, take, Option, None, Some, ⊎_elim, refl, sym, ap, ◌∙◌, subst}
 use Rattle.std.specs.Prelude.{◌==◌, ◌&&◌, ◌||◌, codes}
 use Rattle.std.proofs.lemmas.Bool.{false≢true, and_parts, eqb-true, or_cases}
@@ -15,7 +15,7 @@ use Rattle.test_admission.specs.Admit.{IsAdmittedAs}
 use Rattle.fault_inject.proofs.Steadiness.{steady_of}
 use Rattle.qed_top.specs.Run.{is_reached_word, astray_of, jumps_line, Test, default_options}
 
--- ---- the distance of the halves has no part in what is reached
+-- ---- the distance between the halves does not matter for reached addresses
 abbrev at_distance : Test → ℕ → Test
 at_distance t d = record t { distance = d }
 
@@ -31,8 +31,8 @@ reached_same : (f : ElfFile) (t : Test) (d a : ℕ) → is_reached f (at_distanc
 reached_same f t d a =
     ap (λ b. (t.entry == a) || (list_any (λ c. links_to c a) t.code || (is_named_in f a || (list_any (is_in_data t.base a) t.segments || b)))) (all_made_same t d a t.code)
 
--- ---- the words that are reached
--- one of these at an address has it reached
+-- ---- the reached words
+-- an address at which a reached word stands is reached
 one_reached : (f : ElfFile) (t : Test) (a : ℕ) (cs : List CodeWord) → list_any (λ c. (c.at == a) && is_reached f t c.at) cs ≡ true → is_reached f t a ≡ true
 one_reached f t a [] h = cc
 one_reached f t a (c ∷ cs) h =
@@ -42,7 +42,7 @@ one_reached f t a (c ∷ cs) h =
     subst (λ q. is_reached f t q ≡ true) (eqb-true c.at a both.0) both.1)
     (one_reached f t a cs) (or_cases ((c.at == a) && is_reached f t c.at) (list_any (λ d. (d.at == a) && is_reached f t d.at) cs) h)
 
--- so the promises hold over these, with any options
+-- the promises hold over the reached words, with any options
 pub words_reached : (f : ElfFile) (t : Test) (o : Options) → IsAdmittedAs f default_options t → AreReached f o (is_reached_word f t)
 words_reached f t o admitted chosen a h =
     let told = admitted.test in
@@ -63,18 +63,18 @@ words_reached f t o admitted chosen a h =
       reached = reached_same f t d a ∙ one_reached f t a t.code h;
     }
 
--- ---- a run that is told of
+-- ---- the printed line
 -- the fifth byte of a line is a space
 abbrev is_two_words : List ℕ → Bool
 is_two_words (a ∷ b ∷ c ∷ d ∷ e ∷ rest) = e == 32
 is_two_words _ = false
 
--- a line tells whether there was a jump astray
+-- the line says whether there was a jump astray
 no_jump : (astray : Option (ℕ × ℕ)) → jumps_line astray ≡ codes "jumps reached\n" → astray ≡ None
 no_jump None e = refl
 no_jump (Some j) e = absurd (false≢true (sym (ap is_two_words e)))
 
--- where the line is `jumps reached`, there were no changes and the run did not trap, the input is steady for so many steps
+-- if the line is `jumps reached`, there were no changes and the run did not trap, the input is steady for these steps
 pub told_steady :
     (f : ElfFile) (t : Test) (steps : ℕ) → jumps_line (astray_of f t steps []) ≡ codes "jumps reached\n" → NotTrapped (after_input (loaded_file f) steps)
     → Steady (loaded_file f) (is_reached_word f t) steps

@@ -17,7 +17,7 @@ use Rattle.qed_top.proofs.Calls.{Tells, tells, calls_tells, calls_settled, read_
 use Rattle.qed_top.proofs.Meanings.{calls_more}
 use Rattle.qed_top.proofs.Statuses.{Printed}
 
--- ---- what is meant stays so when more counts have risen
+-- ---- an answer keeps its meaning if more counts have risen
 read_more : (bytes : List ℕ) (P Q : ElfFile → Type 0) (answer : Answer) → ((f : ElfFile) → P f → Q f) → ReadOn bytes P answer → ReadOn bytes Q answer
 read_more bytes P Q answer h (not_read u) = not_read u
 read_more bytes P Q answer h (read_on f r p) = read_on f r (h f p)
@@ -34,7 +34,7 @@ files_later (name ∷ names) fs turns steps loads rose later h answer m =
     calls_more RunFileBytes bytes (rose name) (later name) (ReadOn bytes then_rose answer) (ReadOn bytes then_later answer) answer (h name)
     (read_more bytes then_rose then_later answer (λ f n. files_later names (fs ++ f ∷ []) turns steps (later_loads loads) rose later h answer n)) m
 
--- ---- the status is one that goes with a text, and nothing is stored
+-- ---- the status has a text, and nothing is stored
 if_printed : (test : Bool) (s t : Status) → Printed s → Printed t → Printed (if test then s else t)
 if_printed true s t p q = p
 if_printed false s t p q = q
@@ -58,7 +58,7 @@ files_tells (name ∷ names) fs turns steps loads rose answer m =
     calls_tells RunFileBytes bytes (rose name) (ReadOn bytes next answer) None answer
     (read_tells bytes next answer (λ f n. files_tells names (fs ++ f ∷ []) turns steps (later_loads loads) rose answer n)) m
 
--- ---- the status is the one that is decided
+-- ---- the status is the decided one
 plays_settled :
     (fs : List ElfFile) (turns : Option (List ℕ)) (steps : ℕ) (answer : Answer) (t : Status) → Plays fs turns steps answer → PlayDecides fs turns steps t
     → answer.status ≡ t

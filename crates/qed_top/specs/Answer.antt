@@ -1,4 +1,4 @@
--- Answers: what is printed and stored, and the status that goes with it.
+-- Answers: what is printed and stored, with the status.
 use Rattle.std.specs.Prelude.{◌≡◌, ◌⊎◌, ◌<◌, ◌≤◌, ℕ, List, length, Option, None, Some, IfSome, IsSomeAnd}
 use Rattle.std.specs.FinMap.{insert}
 use Rattle.qed_io.specs.Files.{Files, StoredInPart}
@@ -30,7 +30,7 @@ pub record IsTooLong (limit : limits.Limit) (bytes : List ℕ) (answer : Answer)
   pub cause : limit_of limit < length bytes
   pub plain : PrintsOnly Limit (limit_line limit 0) answer
 
--- what a command answers over the bytes of its file, of which it takes so many; `rose` says that the count of failed loads of the
+-- what a command answers over the bytes of its file, up to a limit; `rose` says that the count of failed loads of the
 -- file rose
 pub data CallsFor (limit : limits.Limit) (bytes : List ℕ) (rose : Type 0) (Within : Type 0) (answer : Answer) : Type 0 where
   read_fault : IsReadFault rose answer → CallsFor limit bytes rose Within answer
@@ -42,11 +42,11 @@ abbrev pub with_stored : Option Stored → Files → Files
 with_stored None files = files
 with_stored (Some s) files = insert files s.name s.bytes
 
--- the files after an answer, where they are told
+-- the files after an answer, if contracts know them
 abbrev pub FilesAfter : Option Stored → Option Files → Option Files → Type 0
 FilesAfter stored old new = IfSome old (λ files. new ≡ Some (with_stored stored files))
 
--- the files after an answer whose store failed, where they are told
+-- the files after an answer whose store failed, if contracts know them
 abbrev pub FilesInPart : Option Stored → Option Files → Option Files → Type 0
 FilesInPart None old new = ⊥
 FilesInPart (Some s) old new = IfSome old (λ files. IsSomeAnd new (StoredInPart files s.name s.bytes))
@@ -62,14 +62,14 @@ pub record ShelfSteady (load_before load_now store_before store_now : List ℕ �
   pub load : NoneChanged load_before load_now
   pub store : NoneChanged store_before store_now
 
--- none changed from one state of a shelf to another
+-- no count of faults changed from one state of a shelf to another
 abbrev pub IsSteady : {S : Type 0} → Ghosts S → S → S → Type 0
 IsSteady shelf old new = ShelfSteady (shelf.load_faults old) (shelf.load_faults new) (shelf.store_faults old) (shelf.store_faults new)
 
--- the count of failed loads of a name rose from the one to the other
+-- the count of failed loads of a name rose from one state to another
 abbrev pub LoadRose : {S : Type 0} → Ghosts S → S → S → List ℕ → Type 0
 LoadRose shelf old new = RoseAt (shelf.load_faults old) (shelf.load_faults new)
 
--- no count of the shelf's faults changed, or the answer tells of a read fault
+-- no count of the shelf's faults changed, or the answer reports a read fault
 abbrev pub SteadyOrReadFault : Type 0 → Answer → Type 0
 SteadyOrReadFault Steady answer = Steady ⊎ PrintsOnly ReadFault read_fault_line answer

@@ -10,7 +10,7 @@ use Rattle.qed_top.specs.declared.answer.Answer.{Answer}
 use Rattle.qed_top.specs.declared.status.Status.{Status}
 use Rattle.qed_top.specs.declared.status.Status.TheVariants.{Done, Refused}
 
--- a line is at fault, or none gives a code word
+-- a line is faulty, or no line gives a code word
 pub record IsFaulty (text : List ℕ) (answer : Answer) : Type 0 where
   pub error : AsmError
   pub cause : IsRefused text error
@@ -30,7 +30,7 @@ pub data Assembles (text output : List ℕ) (answer : Answer) : Type 0 where
   faulty : IsFaulty text answer → Assembles text output answer
   assembled : IsAssembled text output answer → Assembles text output answer
 
--- the status, by what is true of the text
+-- the status, by the facts of the text
 pub data AsmDecides (text : List ℕ) (status : Status) : Type 0 where
   has_fault : (e : AsmError) → IsRefused text e → e ≢ errors.Memory → status ≡ Refused → AsmDecides text status
   is_file : (file : List ℕ) → Assembled text file → status ≡ Done → AsmDecides text status

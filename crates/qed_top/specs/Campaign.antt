@@ -21,17 +21,17 @@ use Rattle.qed_top.specs.declared.status.Status.TheVariants.{Done, Trapped}
 abbrev pub strikes_of : Prepared → Draws → List (List Change)
 strikes_of course draws = drawn_strikes (map range_of course.plan.span) course.runs.reach draws
 
--- each drawn strike has its verdict, up to the first where the input traps, and the pc of that trap
+-- each drawn strike has its verdict, up to the first whose input traps, and the pc of that trap
 pub record IsCarriedOut (course : Prepared) (draws : Draws) (struck : List Struck) (trapped : Option ℕ) : Type 0 where
   pub reach : IsReach course.runs.output course.runs.reach
   pub verdicts : AreStruck course.runs (strikes_of course draws) struck trapped
 
--- the status where the input trapped, or where it did not
+-- the status, by whether the input trapped
 abbrev pub campaign_status : Option ℕ → Status
 campaign_status None = Done
 campaign_status (Some pc) = Trapped
 
--- whether each strike ended right, where `--results` asks for it
+-- whether each strike ended right, if `--results` asks for it
 abbrev pub told_rights : Prepared → Bool → List Struck → Option (List Bool)
 told_rights course false struck = None
 told_rights course true struck = Some (rights course.runs (map range_of course.plan.span) struck)
@@ -57,7 +57,7 @@ pub record IsStruck (bytes : List ℕ) (o : Options) (draws : Draws) (results : 
 abbrev pub Campaigns : List ℕ → Options → Draws → Bool → Answer → Type 0
 Campaigns bytes o draws results answer = Makes bytes o (IsStruck bytes o draws results answer) answer
 
--- the status by what is true of the bytes; of a test that can be transformed it is that of the campaign
+-- the status, by the facts of the bytes; for a test that can be transformed it is the campaign's
 abbrev pub CampaignDecides : List ℕ → Options → Draws → Status → Type 0
 CampaignDecides bytes o draws status =
     MakesDecides bytes o

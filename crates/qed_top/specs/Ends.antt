@@ -28,8 +28,8 @@ pub record Faults : Type 0 where
   pub store : List ℕ → ℕ
   pub sink : ℕ
 
--- one call: its words, and at its start and at its end the files that the shelf tells, the bytes that the sink tells, and the counts
--- of faults
+-- one call: its words; at its start and end the files that the shelf has and the bytes that the sink has, if contracts
+-- know them; and the counts of faults
 pub record Call : Type 0 where
   pub words : List (List ℕ)
   pub old : Option Files
@@ -39,7 +39,7 @@ pub record Call : Type 0 where
   pub before : Faults
   pub after : Faults
 
--- those of a shelf and a sink
+-- the counts of faults of a shelf and a sink
 abbrev pub faults_of : {S K : Type 0} → shelves.Ghosts S → sinks.Ghosts K → S → K → Faults
 faults_of shelf sink kept written = record { load = shelf.load_faults kept; store = shelf.store_faults kept; sink = sink.faults written }
 
@@ -59,7 +59,7 @@ call_on shelf sink words start end first last = record {
 abbrev pub load_rose : Call → List ℕ → Type 0
 load_rose call = RoseAt call.before.load call.after.load
 
--- the same of failed stores
+-- the count of failed stores of a name rose in the call
 abbrev pub store_rose : Call → List ℕ → Type 0
 store_rose call = RoseAt call.before.store call.after.store
 
@@ -71,7 +71,7 @@ sink_rose call = Rose call.before.sink call.after.sink
 abbrev pub KeepsShelf : Call → Type 0
 KeepsShelf call = ShelfSteady call.before.load call.after.load call.before.store call.after.store
 
--- what is meant over these files at its loads was stored and printed, and the status is the one that goes with it
+-- the answer that the words and these files call for was stored and printed, with its status
 pub record IsAnswered (call : Call) (loads : Loads) (status : Status) : Type 0 where
   pub answer : Answer
   pub meant : WordsCallFor call.words loads (load_rose call) answer
@@ -79,14 +79,14 @@ pub record IsAnswered (call : Call) (loads : Loads) (status : Status) : Type 0 w
   pub stored : FilesAfter answer.stored call.old call.new
   pub printed : Appends call.was call.now answer.text
 
--- what is meant was stored, and the print stopped before its end
+-- the answer was stored, and the print stopped before its end
 pub record StoppedInPrint (call : Call) (loads : Loads) : Type 0 where
   pub answer : Answer
   pub meant : WordsCallFor call.words loads (load_rose call) answer
   pub stored : FilesAfter answer.stored call.old call.new
   pub printed : AppendsPart call.was call.now answer.text
 
--- the store of what is meant failed, and nothing was printed
+-- the store of the answer failed, and nothing was printed
 pub record StoppedInStore (call : Call) (loads : Loads) : Type 0 where
   pub answer : Answer
   pub meant : WordsCallFor call.words loads (load_rose call) answer
@@ -101,13 +101,13 @@ pub record Unchanged (call : Call) : Type 0 where
   pub shelf : KeepsShelf call
   pub sink : call.after.sink ≡ call.before.sink
 
--- the print stopped for want of memory; no count of faults changed, but for those of the shelf where a read fault was to be printed
+-- the print stopped for want of memory; no fault was counted, except by the shelf if a read fault was to be printed
 pub record StoppedForMemory (call : Call) (loads : Loads) : Type 0 where
   pub stopped : StoppedInPrint call loads
   pub shelf : stopped.answer.status ≢ ReadFault → KeepsShelf call
   pub sink : call.after.sink ≡ call.before.sink
 
--- how the call ends over these files at its loads, by its status
+-- the end of the call over these files at its loads, by its status
 abbrev pub EndsOver : Call → Loads → Status → Type 0
 EndsOver call loads WriteFault = (sink_rose call × StoppedInPrint call loads) ⊎ StoppedInStore call loads
 EndsOver call loads Memory = Unchanged call ⊎ StoppedForMemory call loads
@@ -116,12 +116,12 @@ EndsOver call loads status = IsAnswered call loads status
 abbrev pub Ends : Call → Status → Type 0
 Ends call status = OverLoads call.old (λ loads. EndsOver call loads status)
 
--- ---- what can be expected
--- the status of `transform` and `plan` over bytes within the limit, by what is true of them
+-- ---- what to expect
+-- the status of `transform` and `plan` over bytes within the limit, by the facts of the bytes
 abbrev pub TransformDecides : List ℕ → Options → Status → Type 0
 TransformDecides bytes o status = MakesDecides bytes o (status ≡ Done) status
 
--- the same of a command that takes each file that is read and has not too many bytes in memory, with its status of a file
+-- the status of a command that takes each file that is read and fits into memory, with its status for a file
 abbrev pub ReadDecides : List ℕ → (ElfFile → Status) → Status → Type 0
 ReadDecides bytes done status = ReadOnDecides bytes (λ f. InMemoryDecides f (done f) status) status
 
@@ -129,12 +129,12 @@ ReadDecides bytes done status = ReadOnDecides bytes (λ f. InMemoryDecides f (do
 abbrev pub ran_status : ℕ → List Change → ElfFile → Status
 ran_status steps changes f = outcome_status (run_of f steps changes).state.outcome
 
--- the status of `run --reached`: a file that is read and not admitted has that of its refusal, each other the one of `run`
+-- the status of `run --reached`: that of the refusal for a file that is read but not admitted, else that of `run`
 pub data WatchDecides (bytes : List ℕ) (done : ElfFile → Status) (status : Status) : Type 0 where
   no_test : (e : AdmitError) → IsNotAdmitted bytes default_options e → status ≡ admit_status e → WatchDecides bytes done status
   as_run : ((f : ElfFile) → IsReadAs bytes f → IsAdmitted f default_options) → ReadDecides bytes done status → WatchDecides bytes done status
 
--- the status of both
+-- the status of `run`, with `--reached` or without
 abbrev pub RunDecides : Bool → List ℕ → (ElfFile → Status) → Status → Type 0
 RunDecides false bytes status_of status = ReadDecides bytes status_of status
 RunDecides true bytes status_of status = WatchDecides bytes status_of status
@@ -152,7 +152,7 @@ DecidesOver (Asm text output) bytes status = AsmDecides bytes status
 DecidesOver (Harts files turns steps) bytes status = ⊥
 DecidesOver (Tell topic) bytes status = status ≡ Done
 
--- the same with the loading of the file
+-- the status of an order that reads at most one file, with the loading of the file
 abbrev pub SourceDecides : Order → Files → Status → Type 0
 SourceDecides order files status =
     MatchOption (source_name order) (DecidesOver order [] status)
@@ -167,12 +167,12 @@ OrderDecides order loads status = SourceDecides order (loads 0) status
 abbrev pub Decides : List (List ℕ) → Loads → Status → Type 0
 Decides words loads status = MatchResult (asked words) (λ order. OrderDecides order loads status) (λ reason. status ≡ Usage)
 
--- neither the count of the sink rose, nor that of loads of a file that is read, nor that of stores of the one that is stored
+-- no count rose: not the sink's, not of loads of a file that the order reads, not of stores of the file that it stores
 pub record NoFault (call : Call) : Type 0 where
   pub sink : sink_rose call → ⊥
   pub load : IfOk (asked call.words) (λ order. All (λ name. load_rose call name → ⊥) (source_names order))
   pub store : IfOk (asked call.words) (λ order. IfSome (stored_name order) (λ name. store_rose call name → ⊥))
 
--- with no fault the status is the one that is decided over these files at its loads, or there was no memory
+-- without faults the status is the decided one over these files at its loads, or memory ran out
 abbrev pub IsComplete : Call → Loads → Status → Type 0
 IsComplete call loads status = NoFault call → (decided : Status) → Decides call.words loads decided → (status ≡ decided) ⊎ (status ≡ Memory)

@@ -10,26 +10,26 @@ use Rattle.qed_top.specs.declared.answer.Answer.{Answer}
 use Rattle.qed_top.specs.declared.status.Status.{Status}
 use Rattle.qed_top.specs.declared.status.Status.TheVariants.{Done, Refused}
 
--- the number of the word at an address, of so many that begin at a base
+-- the number of the word at an address, among `count` words from `base` on
 abbrev pub word_number : ℕ → ℕ → ℕ → Option ℕ
 word_number base count a = if (nat_le base a && (a - base) % 4 == 0) && nat_lt ((a - base) / 4) count then Some ((a - base) / 4) else None
 
--- the same of a word of new code
+-- the number of the word of new code at an address
 abbrev pub number_at : Explained → ℕ → Option ℕ
 number_at x a = word_number x.base (length x.words.items) a
 
--- N1: no word stands at the address; or the word there is told, with its role
+-- N1: no word stands at the address; else the word there is printed, with its role
 abbrev pub TellsWord : Explained → ℕ → Answer → Type 0
 TellsWord x a answer =
     MatchOption (number_at x a) (PrintsOnly Refused (no_word_line a) answer)
     (λ n. IsSomeAnd (role_at x.roles.items (a - x.base)) (λ role. PrintsOnly Done (word_text role a (slice_index x.words.items n) x.file.symbols) answer))
 
--- all words are told, or the one at an address
+-- all words are printed, or the word at an address
 abbrev pub TellsRoles : Explained → Option ℕ → Answer → Type 0
 TellsRoles x None answer = PrintsOnly Done (role_lines x.roles.items x.words.items x.base) answer
 TellsRoles x (Some a) answer = TellsWord x a answer
 
--- there is new code, of which is told
+-- the bytes have new code, and its words are printed
 pub record AreTold (bytes : List ℕ) (o : Options) (at : Option ℕ) (answer : Answer) : Type 0 where
   pub code : Explained
   pub is : IsExplained bytes o code
@@ -39,7 +39,7 @@ pub record AreTold (bytes : List ℕ) (o : Options) (at : Option ℕ) (answer : 
 abbrev pub Explains : List ℕ → Options → Option ℕ → Answer → Type 0
 Explains bytes o at answer = Makes bytes o (AreTold bytes o at answer) answer
 
--- the status of new code, by whether a word stands at the address
+-- the status for new code, by whether a word stands at the address
 abbrev pub word_status : Option ℕ → Status
 word_status None = Refused
 word_status (Some n) = Done
@@ -48,6 +48,6 @@ abbrev pub told_status : Explained → Option ℕ → Status
 told_status x None = Done
 told_status x (Some a) = word_status (number_at x a)
 
--- the status by what is true of the bytes; of a test that can be transformed it is that of its new code
+-- the status, by the facts of the bytes; for a test that can be transformed it is that of its new code
 abbrev pub ExplainDecides : List ℕ → Options → Option ℕ → Status → Type 0
 ExplainDecides bytes o at status = MakesDecides bytes o ((x : Explained) → IsExplained bytes o x → status ≡ told_status x at) status

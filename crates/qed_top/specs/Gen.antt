@@ -24,11 +24,11 @@ use Rattle.qed_top.specs.declared.status.Status.TheVariants.{Done, Limit}
 abbrev pub test_bytes : ℕ → ℕ → List ℕ
 test_bytes seed size = written (generated seed size)
 
--- the words of its code
+-- the number of words of that test's code
 abbrev pub word_number : ℕ → ℕ → ℕ
 word_number seed size = length (code seed (function_count size))
 
--- how many steps each run has at most
+-- the most steps of each run
 abbrev pub most_steps : ℕ
 most_steps = 100000000
 
@@ -38,7 +38,7 @@ pub record IsRunOf (bytes : List ℕ) (p : Progress) : Type 0 where
   pub read : IsReadAs bytes file
   pub run : p ≡ progress (begun (start (loaded_file file) zeros)) most_steps
 
--- both runs have ended, the test is stored as OUT, and the line is printed that tells of it, of its output with the plan, and of both runs
+-- both runs have ended, the test is stored as OUT, and the line about it, its output's plan and both runs is printed
 pub record Generates (output : List ℕ) (seed size : ℕ) (file : List ℕ) (plan : Plan) (answer : Answer) : Type 0 where
   pub own : Progress
   pub own_run : IsRunOf (test_bytes seed size) own
@@ -61,7 +61,7 @@ pub data Gens (output : List ℕ) (seed size : ℕ) (answer : Answer) : Type 0 w
   large_code : HasLargeCode seed size answer → Gens output seed size answer
   generates : IsMade (test_bytes seed size) default_options (Generates output seed size) answer → Gens output seed size answer
 
--- the status, by what is true of the test
+-- the status, by the facts of the test
 pub data GenDecides (seed size : ℕ) (status : Status) : Type 0 where
   has_large_code : (n : ℕ) → HasTooMuchCode (test_bytes seed size) default_options limit.CodeBytes n → status ≡ Limit → GenDecides seed size status
   has_small_code : ((n : ℕ) → HasTooMuchCode (test_bytes seed size) default_options limit.CodeBytes n → ⊥) → status ≡ Done → GenDecides seed size status

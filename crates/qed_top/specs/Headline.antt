@@ -1,4 +1,4 @@
--- The headline: what the top call promises of both files when `transform IN OUT` is done.
+-- The headline: what the top call promises of both files after `transform IN OUT`.
 use Rattle.std.specs.Prelude.{◌≡◌, ◌≤◌, ℕ, Bool, List, length, map, Some, Ok, IfSome}
 use Rattle.std.specs.FinMap.{insert}
 use Rattle.std.specs.Io.KnownBytes.{Appends}
@@ -21,12 +21,13 @@ use Rattle.qed_top.specs.Loads.{Loads, OverLoads, Files, file_bytes}
 use Rattle.qed_top.specs.declared.status.Status.{Status}
 use Rattle.qed_top.specs.declared.status.Status.TheVariants.{Done}
 
--- IN is a test and OUT a program that was woven from it, with these options, and both are within the limits. The program's run has the values of the test's run
--- after each of its steps, and no check fires; a jump to a wrong entry fires, in the form with comparisons, and with `land` in the
--- lean form, where also a run that strays into a block is over soon; changes of original registers and of data words are
--- caught; with the sweep none is silent at the end. This holds as far as the test does not trap, for any addresses that are reached; where only
--- those have entries of which the file shows that they are, its jumps by register have to lead to these. Bounds,
--- entries and data ranges are those of the woven plan, whose numbers the line tells: of its bounds those of a register and of a word.
+-- IN is a test and OUT a program woven from it with these options, both within the limits. The program's run has the
+-- test's values after each step of the test, and no check fires. A jump to a wrong entry fires in the form with
+-- comparisons, and with `land` in the lean form; there a run that strays into a block is over soon too. Changes of
+-- original registers and of data words are caught; with the sweep none is silent at the end. All this holds while the
+-- test does not trap, for any reached addresses. If only addresses that the file shows as reached have entries, the
+-- test's indirect jumps must lead to these. Bounds, entries and data ranges are those of the woven plan. The line
+-- prints the plan's numbers, of its bounds those of a register and of a word.
 pub record IsPromised (input : List ℕ) (options : Options) (output line : List ℕ) : Type 0 where
   pub test : ElfFile
   pub program : ElfFile
@@ -50,14 +51,14 @@ pub record IsDelivered (call : Call) (files : Files) (input output : List ℕ) (
   pub printed : Appends call.was call.now line
   pub promised : IsPromised (file_bytes files input) options file line
 
--- after `transform IN OUT` with Done
+-- what holds after `transform IN OUT` with Done
 abbrev pub HoldsHeadline : Call → Files → Status → Type 0
 HoldsHeadline call files status =
     (input output : List ℕ) (options : Options) → asked call.words ≡ Ok (Transform input output options) → status ≡ Done
     → IsDelivered call files input output options
 
--- all that is said over these files at its loads of a call that answers this status: its headline, why the status comes with what was
--- stored and printed, and which status comes where there is no fault
+-- what holds of a call with this status, over these files at its loads: the headline, why the status comes with what
+-- was stored and printed, and which status comes without faults
 pub record HoldsOver (call : Call) (status : Status) (loads : Loads) : Type 0 where
   pub headline : HoldsHeadline call (loads 0) status
   pub ends : EndsOver call loads status

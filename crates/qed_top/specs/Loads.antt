@@ -4,7 +4,7 @@ pub use Rattle.qed_io.specs.Files.{Files, file_bytes}
 use Rattle.qed_top.specs.declared.status.Status.{Status}
 use Rattle.qed_top.specs.declared.status.Status.TheVariants.{Limit}
 
--- of the files that are told; where nothing is told, of some files
+-- a property of the files that contracts know; if they know none, of some files
 pub record OverFiles (told : Option Files) (Holds : Files → Type 0) : Type 0 where
   pub files : Files
   pub same : IfSome told (λ f. f ≡ files)
@@ -14,13 +14,13 @@ pub record OverFiles (told : Option Files) (Holds : Files → Type 0) : Type 0 w
 abbrev pub Loads : Type 0
 Loads = ℕ → Files
 
--- of the files at each load, which are those that are told; where nothing is told, of some
+-- a property of the files at each load: those that contracts know; if they know none, of some
 pub record OverLoads (told : Option Files) (Holds : Loads → Type 0) : Type 0 where
   pub loads : Loads
   pub same : IfSome told (λ f. (k : ℕ) → f ≡ loads k)
   pub holds : Holds loads
 
--- the status over the bytes of a file, of which so many are taken
+-- the status over the bytes of a file, up to a limit
 pub data Decided (limit : ℕ) (bytes : List ℕ) (Within : Type 0) (status : Status) : Type 0 where
   too_long : limit < length bytes → status ≡ Limit → Decided limit bytes Within status
   within : length bytes ≤ limit → Within → Decided limit bytes Within status

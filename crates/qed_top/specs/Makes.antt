@@ -1,4 +1,4 @@
--- What commands answer that transform their file.
+-- What the commands that transform their file answer.
 use Rattle.std.specs.Prelude.{◌≡◌, ℕ, List, IsSomeAnd}
 use Rattle.qed_model.specs.declared.plan.Plan.{Plan}
 use Rattle.qed_words.specs.Text.Plan.{plan_line}
@@ -8,7 +8,7 @@ use Rattle.qed_top.specs.Refused.{Makes, Options, Transforms}
 use Rattle.qed_top.specs.declared.answer.Answer.{Answer}
 use Rattle.qed_top.specs.declared.status.Status.TheVariants.{Done}
 
--- an output and its plan were made, all is promised of both, and the answer is what the command does with them
+-- an output and its plan were made, with all their promises, and the answer is what the command does with them
 pub record IsMade (bytes : List ℕ) (o : Options) (Uses : List ℕ → Plan → Answer → Type 0) (answer : Answer) : Type 0 where
   pub file : List ℕ
   pub plan : Plan

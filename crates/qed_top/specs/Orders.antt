@@ -23,7 +23,7 @@ use Rattle.qed_top.specs.declared.answer.Answer.{Answer}
 use Rattle.qed_top.specs.declared.status.Status.TheVariants.{Done, Usage}
 
 -- ---- files
--- the name of the file that an order reads, where it reads one
+-- the name of the file that an order reads, if it reads one
 abbrev pub source_name : Order → Option (List ℕ)
 source_name (Transform input output options) = Some input
 source_name (Plan input options) = Some input
@@ -38,23 +38,23 @@ abbrev pub listed : Option (List ℕ) → List (List ℕ)
 listed None = []
 listed (Some name) = name ∷ []
 
--- the names of all files that it reads, in their order
+-- the names of all files that an order reads, in their order
 abbrev pub source_names : Order → List (List ℕ)
 source_names (Harts files turns steps) = files
 source_names order = listed (source_name order)
 
--- whether it reads several
+-- whether an order reads several files
 abbrev pub reads_several : Order → Bool
 reads_several (Harts files turns steps) = true
 reads_several _ = false
 
--- the limit on its bytes
+-- the limit on the bytes of an order's file
 abbrev pub source_limit : Order → limits.Limit
 source_limit (Run file steps changes dump reached) = RunFileBytes
 source_limit (order.List file) = RunFileBytes
 source_limit _ = FileBytes
 
--- the name of the file that an order stores, where there is one
+-- the name of the file that an order stores, if it stores one
 abbrev pub stored_name : Order → Option (List ℕ)
 stored_name (Transform input output options) = Some output
 stored_name (Gen output seed size) = Some output
@@ -62,11 +62,11 @@ stored_name (Asm text output) = Some output
 stored_name _ = None
 
 -- ---- answers
--- the words ask for nothing, and this is why
+-- the words ask for nothing, for this reason
 abbrev pub IsUsage : Reason → Answer → Type 0
 IsUsage reason answer = PrintsOnly Usage (reason_line reason) answer
 
--- what an order that reads no more than one file calls for over its bytes, which are within the limit
+-- what an order that reads at most one file calls for over its bytes, which are within the limit
 abbrev pub AnswersOver : Order → List ℕ → Answer → Type 0
 AnswersOver (Transform input output options) bytes answer = MakesOutput bytes options (Delivers output) answer
 AnswersOver (Plan input options) bytes answer = MakesOutput bytes options TellsPlan answer
@@ -79,7 +79,7 @@ AnswersOver (Asm text output) bytes answer = Assembles bytes output answer
 AnswersOver (Harts files turns steps) bytes answer = ⊥
 AnswersOver (Tell topic) bytes answer = PrintsOnly Done (told_text topic) answer
 
--- the same with the loading of the file; `rose` holds of a name whose count of failed loads rose
+-- what an order that reads at most one file calls for, with its loading; `rose` holds of a name whose failed loads rose
 abbrev pub SourceCallsFor : Order → Files → (List ℕ → Type 0) → Answer → Type 0
 SourceCallsFor order files rose answer =
     MatchOption (source_name order) (AnswersOver order [] answer)

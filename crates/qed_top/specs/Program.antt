@@ -11,7 +11,7 @@ use Rattle.qed_top.specs.Ends.{Call}
 use Rattle.qed_top.specs.Headline.{Answers}
 use Rattle.qed_top.specs.declared.status.Status.{Status}
 
--- the words that the arguments have after the program's name; arguments that cannot be read are no words
+-- the words behind the program's name; none if the arguments cannot be read
 abbrev pub words_after : {A B : Type 0} → Result (IntoIter (String A) B) Error → List (List ℕ)
 words_after (Ok arguments) = texts (drop 1 (into_iter_items arguments))
 words_after (Err error) = []
@@ -22,8 +22,8 @@ pub record Exits (call : Call) (code : ExitCode) : Type 0 where
   pub code_of : exit_status code ≡ status_code status
   pub answers : Answers call status
 
--- the code is that of a status with which some call ends, on any words, where neither files nor text are told and no fault was counted
--- before
+-- the code is that of a status with which some call ends, on any words; contracts know neither files nor text, and no
+-- fault was counted before
 pub record ExitsUntold (code : ExitCode) : Type 0 where
   pub call : Call
   pub exits : Exits call code

@@ -29,11 +29,11 @@ abbrev pub memory_bytes : List Segment → ℕ
 memory_bytes [] = 0
 memory_bytes (s ∷ segments) = cond (is_load s.kind) s.memory 0 + memory_bytes segments
 
--- how many of them can be run
+-- the most bytes of memory that can be run
 abbrev pub memory_limit : ℕ
 memory_limit = limit_of limit.MemoryBytes
 
--- so many steps of a file from all registers 0, with changes
+-- `steps` steps of a file from all registers 0, with changes
 abbrev pub run_of : ElfFile → ℕ → List Change → Progress
 run_of file steps changes = record {
   state = changed_run (start (loaded_file file) zeros) changes steps;
@@ -52,12 +52,12 @@ pub record IsAboveMemory (f : ElfFile) (answer : Answer) : Type 0 where
   pub over : memory_limit < memory_bytes f.segments
   pub plain : PrintsOnly Limit (limit_line limit.MemoryBytes (memory_bytes f.segments)) answer
 
--- they have, or more is said
+-- the file has too many bytes in memory, or a further property holds
 pub data InMemory (f : ElfFile) (Within : Type 0) (answer : Answer) : Type 0 where
   too_large : IsAboveMemory f answer → InMemory f Within answer
   fits : memory_bytes f.segments ≤ memory_limit → Within → InMemory f Within answer
 
--- the status that goes with it
+-- the status for a file, by whether it fits into memory
 pub data InMemoryDecides (f : ElfFile) (done status : Status) : Type 0 where
   is_too_large : memory_limit < memory_bytes f.segments → status ≡ Limit → InMemoryDecides f done status
   is_within : memory_bytes f.segments ≤ memory_limit → status ≡ done → InMemoryDecides f done status
@@ -74,20 +74,20 @@ abbrev pub Runs : List ℕ → ℕ → List Change → Option (ℕ × ℕ) → A
 Runs bytes steps changes dump answer = ReadOn bytes (λ f. FileRuns f steps changes [] dump answer) answer
 
 -- ---- `run --reached`
--- a code word of the test stands at the address, and that is reached
+-- a code word of the test stands at the address, and the address is reached
 abbrev pub is_reached_word : ElfFile → Test → ℕ → Bool
 is_reached_word f t a = list_any (λ c. (c.at == a) && is_reached f t c.at) t.code
 
--- of so many steps of a file with changes the first jump by register that leads to no such address, and where it leads
+-- the first indirect jump to no reached code word, in `steps` steps of a file with changes, and its target
 abbrev pub astray_of : ElfFile → Test → ℕ → List Change → Option (ℕ × ℕ)
 astray_of f t steps changes = first_astray (is_reached_word f t) (start (loaded_file f) zeros) changes steps
 
--- the text about that, which is empty where no test is told of
+-- the text about that jump; empty without a test
 abbrev pub jumps_of : ElfFile → Option Test → ℕ → List Change → List ℕ
 jumps_of f None steps changes = []
 jumps_of f (Some t) steps changes = jumps_line (astray_of f t steps changes)
 
--- the file was read, and is a test by the rules of `transform` without options; its jumps by register are told of
+-- the file is read, and is a test by the rules of `transform` without options; the text covers its indirect jumps
 pub record IsWatched (bytes : List ℕ) (steps : ℕ) (changes : List Change) (dump : Option (ℕ × ℕ)) (answer : Answer) : Type 0 where
   pub file : ElfFile
   pub read : IsReadAs bytes file
@@ -95,13 +95,13 @@ pub record IsWatched (bytes : List ℕ) (steps : ℕ) (changes : List Change) (d
   pub admitted : IsAdmittedAs file default_options test
   pub runs : FileRuns file steps changes (jumps_line (astray_of file test steps changes)) dump answer
 
--- the answer over the bytes of the file, which are within the limit; one that is no test is refused as `transform` refuses it
+-- the answer over the bytes of the file, which are within the limit; what is not a test is refused as by `transform`
 pub data Watches (bytes : List ℕ) (steps : ℕ) (changes : List Change) (dump : Option (ℕ × ℕ)) (answer : Answer) : Type 0 where
   unread_test : IsUnread bytes answer → Watches bytes steps changes dump answer
   no_test : IsUnadmitted bytes default_options answer → Watches bytes steps changes dump answer
   watched : IsWatched bytes steps changes dump answer → Watches bytes steps changes dump answer
 
--- ---- both
+-- ---- `run`, with `--reached` or without
 abbrev pub RunsAs : Bool → List ℕ → ℕ → List Change → Option (ℕ × ℕ) → Answer → Type 0
 RunsAs false bytes steps changes dump answer = Runs bytes steps changes dump answer
 RunsAs true bytes steps changes dump answer = Watches bytes steps changes dump answer

@@ -14,7 +14,7 @@ pub record AreTurns (count : ℕ) (turns : Option (List ℕ)) : Type 0 where
   pub some : IfSome turns (λ harts. 1 ≤ length harts)
   pub below : IfSome turns (All (λ hart. hart < count))
 
--- the world after turns of these harts, again and again, is told
+-- the world after turns of these harts, again and again, is printed
 abbrev pub TellsTurns : Counted → List ℕ → ℕ → Answer → Type 0
 TellsTurns c harts steps answer =
     PrintsOnly (world_status (counted_turns c (cycled harts steps))) (world_text (counted_turns c (cycled harts steps))) answer
@@ -24,7 +24,7 @@ pub record IsTaken (bytes : List ℕ) (file : ElfFile) : Type 0 where
   pub small : length bytes ≤ limit_of RunFileBytes
   pub read : IsReadAs bytes file
 
--- the files of all names were read, so what is answered over them is what the names call for
+-- all files were read, so the answer over them is what the names call for
 abbrev pub LeadsFrom : Option Files → (List ℕ → ℕ) → List (List ℕ) → List ElfFile → Type 0
 LeadsFrom told before names files =
     (turns : Option (List ℕ)) (steps : ℕ) (after : List ℕ → ℕ) (answer : Answer) → Plays files turns steps answer

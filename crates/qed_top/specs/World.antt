@@ -18,17 +18,17 @@ use Rattle.qed_top.specs.declared.status.Status.{Status}
 use Rattle.qed_top.specs.declared.status.Status.TheVariants.{Done, Refused, Limit, Fired, Trapped, StepsSpent}
 
 -- ---- over the files that were read
--- the memory sizes of all their PT_LOAD segments together
+-- the memory sizes of all PT_LOAD segments of the files together
 abbrev pub all_bytes : List ElfFile → ℕ
 all_bytes [] = 0
 all_bytes (f ∷ fs) = memory_bytes f.segments + all_bytes fs
 
--- the harts that make the turns; where none are given, each of `count` harts, from 0 upwards
+-- the harts that make the turns; by default each of `count` harts, from 0 upwards
 abbrev pub takers : ℕ → Option (List ℕ) → List ℕ
 takers count None = each count (λ i. i)
 takers count (Some harts) = harts
 
--- so many turns of theirs
+-- the schedule of `steps` turns of these harts
 abbrev pub turns_of : List ElfFile → Option (List ℕ) → ℕ → List ℕ
 turns_of fs turns steps = cycled (takers (length fs) turns) steps
 
@@ -36,7 +36,7 @@ turns_of fs turns steps = cycled (takers (length fs) turns) steps
 abbrev pub played : List ElfFile → Option (List ℕ) → ℕ → Counted
 played fs turns steps = counted_turns (counted_start (programs fs)) (turns_of fs turns steps)
 
--- the worst that a hart came to
+-- the status of the worst end of a hart
 abbrev pub world_status : Counted → Status
 world_status c =
     if has_one is_fired c then Fired
@@ -44,8 +44,8 @@ world_status c =
     else if has_one goes_on c then StepsSpent
     else Done
 
--- L6: all segments together have too many bytes in memory; H1: two files share a byte; or the harts make their turns, and what is
--- promised of the file of each holds of it
+-- L6: all segments together have too many bytes in memory; H1: two files share a byte; or the harts make their turns,
+-- and the promises on each file hold of its hart
 pub data Plays (fs : List ElfFile) (turns : Option (List ℕ)) (steps : ℕ) (answer : Answer) : Type 0 where
   too_large : memory_limit < all_bytes fs → PrintsOnly Limit (limit_line limit.MemoryBytes (all_bytes fs)) answer → Plays fs turns steps answer
   shared :
@@ -56,7 +56,7 @@ pub data Plays (fs : List ElfFile) (turns : Option (List ℕ)) (steps : ℕ) (an
       → PrintsOnly (world_status (played fs turns steps)) (world_text (played fs turns steps)) answer
       → TurnsKeep (programs fs) (turns_of fs turns steps) → Plays fs turns steps answer
 
--- the status, by what is true of the files
+-- the status, by the facts of the files
 pub data PlayDecides (fs : List ElfFile) (turns : Option (List ℕ)) (steps : ℕ) (status : Status) : Type 0 where
   is_too_large : memory_limit < all_bytes fs → status ≡ Limit → PlayDecides fs turns steps status
   is_shared : (i j : ℕ) → all_bytes fs ≤ memory_limit → IsLeastShared (programs fs) i j → status ≡ Refused → PlayDecides fs turns steps status
@@ -67,15 +67,15 @@ pub data PlayDecides (fs : List ElfFile) (turns : Option (List ℕ)) (steps : �
 abbrev pub later_loads : Loads → Loads
 later_loads loads k = loads (suc k)
 
--- the files of the names are loaded and read one after the other, behind those that were read; the answer is that over the first that
--- is not had, or that over all
+-- the named files are loaded and read one after another, behind those already read; the answer is that for the first
+-- that cannot be loaded or read, or that over all
 abbrev pub FilesCallFor : List (List ℕ) → List ElfFile → Option (List ℕ) → ℕ → Loads → (List ℕ → Type 0) → Answer → Type 0
 FilesCallFor [] fs turns steps loads rose answer = Plays fs turns steps answer
 FilesCallFor (name ∷ names) fs turns steps loads rose answer =
     CallsFor limit.RunFileBytes (file_bytes (loads 0) name) (rose name)
     (ReadOn (file_bytes (loads 0) name) (λ f. FilesCallFor names (fs ++ f ∷ []) turns steps (later_loads loads) rose answer) answer) answer
 
--- the status that they decide
+-- the status that these files decide
 abbrev pub FilesDecide : List (List ℕ) → List ElfFile → Option (List ℕ) → ℕ → Loads → Status → Type 0
 FilesDecide [] fs turns steps loads status = PlayDecides fs turns steps status
 FilesDecide (name ∷ names) fs turns steps loads status =

@@ -1,4 +1,4 @@
-//! Answers: what is stored and printed, and the status that goes with it.
+//! Answers: what is stored and printed, with the status.
 ghost use Rattle.std.specs.Prelude.{◌≡◌, ◌≢◌, ◌⊎◌, IfOk, OnOk, IsSome, IsErrOf};
 ghost use Rattle.std.specs.Io.KnownBytes.{Appends};
 ghost use Rattle.qed_io.specs.Counts.{Rose, RoseAt, NoneFell};
@@ -41,7 +41,7 @@ pub fn plain(status: Status, text: Bytes) -> Answer
     }
 }
 
-/// The answer where a number is above a limit.
+/// The answer if a number exceeds a limit.
 pub fn above_limit(alloc: Global, limit: Limit, count: u128) -> Result<Answer, AllocError>
     ensures { IfOk result (PrintsOnly Status.Limit (limit_line limit count)) }
 {
@@ -65,7 +65,7 @@ fn store_file<S: Shelf>(stored: &Option<Stored>, shelf: &mut S) -> Result<(), Fa
     Ok(())
 }
 
-/// Stores and prints what an answer says.
+/// Stores and prints an answer.
 pub fn carry_out<S: Shelf, K: Sink>(
     answer: &Answer,
     shelf: &mut S,

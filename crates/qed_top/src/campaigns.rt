@@ -13,14 +13,14 @@ use qed_model::{Draws, Options};
 use report::campaign_text;
 use std::alloc::{AllocError, Global};
 
-/// What is asked of a campaign: its strikes, and whether it is told of each end whether it is right.
+/// A campaign's request: its strikes, and whether to print which ends are right.
 #[derive(Clone, Copy, Debug)]
 pub struct Asked {
     pub draws: Draws,
     pub results: bool,
 }
 
-/// The status where the input trapped at a pc, or where it did not.
+/// The status, by the pc at which the input trapped, if it did.
 fn status_of(trapped: Option<u64>) -> Status
     ensures { result ≡ campaign_status trapped }
 {
@@ -30,7 +30,7 @@ fn status_of(trapped: Option<u64>) -> Status
     }
 }
 
-/// The text about strikes, with `results` where that is told.
+/// The text about strikes; with `results` it says which ends are right.
 fn text_of(
     alloc: Global,
     course: &Course,
@@ -55,7 +55,7 @@ fn text_of(
     }
 }
 
-/// What `campaign` answers where the test was transformed.
+/// What `campaign` answers for a transformed test.
 fn strike(
     alloc: Global,
     course: &Course,

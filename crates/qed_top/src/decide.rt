@@ -17,7 +17,7 @@ use qed_io::Shelf;
 use qed_words::{Order, WordsError, order};
 use std::alloc::{AllocError, Global};
 
-/// What an order calls for that reads no more than one file.
+/// What an order that reads at most one file calls for.
 fn decide_source<S: Shelf>(
     alloc: Global,
     order: Order,

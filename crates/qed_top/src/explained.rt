@@ -13,7 +13,7 @@ use report::no_word_text;
 use std::alloc::{AllocError, Global};
 use transform::{Explained, explain};
 
-/// The number of the word at an address, of so many that begin at a base.
+/// The number of the word at an address, among `count` words from `base` on.
 fn word_number(base: u64, count: usize, at: u64) -> Option<usize>
     ensures value { result ≡ word_number_of base count at }
     ensures place { IfSome result (λ number. at ≡ base + 4 * number) }
@@ -24,7 +24,7 @@ fn word_number(base: u64, count: usize, at: u64) -> Option<usize>
     (offset % 4 == 0 && number < count).then_some(number)
 }
 
-/// What `explain` answers of the word at an address.
+/// What `explain` answers about the word at an address.
 fn tell_word(alloc: Global, code: &Explained, at: u64) -> Result<Answer, AllocError>
     requires { rows_bytes code.now.roles.items ≡ 4 * length code.now.words.items }
     ensures { IfOk result (TellsWord code.now at) }
@@ -44,7 +44,7 @@ fn tell_word(alloc: Global, code: &Explained, at: u64) -> Result<Answer, AllocEr
     }
 }
 
-/// What `explain` answers of new code.
+/// What `explain` answers about new code.
 fn tell(alloc: Global, code: &Explained, at: Option<u64>) -> Result<Answer, AllocError>
     requires fits { code.now.base + rows_bytes code.now.roles.items < 2 ^ 64 }
     requires whole { rows_bytes code.now.roles.items ≡ 4 * length code.now.words.items }
@@ -60,7 +60,7 @@ fn tell(alloc: Global, code: &Explained, at: Option<u64>) -> Result<Answer, Allo
     }
 }
 
-/// What `explain` answers over the bytes of its input: of the word at an address, or of all words.
+/// What `explain` answers over the bytes of its input: about the word at an address, or about all words.
 pub fn answer_explain(
     alloc: Global,
     bytes: &[u8],

@@ -13,7 +13,7 @@ pub enum Fault {
     Print,
     /// The store failed.
     Store,
-    /// There is no memory.
+    /// Memory ran out.
     Memory,
 }
 

@@ -63,8 +63,8 @@ fn deliver(
     })
 }
 
-/// What `gen` answers for a seed and a size in body instructions: the test is transformed and both are run before it is
-/// stored.
+/// What `gen` answers for a seed and a size in body instructions. The test is transformed, and both
+/// are run, before it is stored.
 pub fn answer_gen(alloc: Global, output: Name, seed: u64, size: u64) -> Result<Answer, AllocError>
     requires some { 1 ≤ size }
     requires small { size ≤ 60000 }

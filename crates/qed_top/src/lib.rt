@@ -1,5 +1,5 @@
 //! The whole program as one call over a shelf of files and a sink of text: it decides what the words and the files call
-//! for, and then stores and prints that. Its contract says why each answer comes, and what was stored and printed.
+//! for, then stores and prints it. Its contract says why each answer comes, and what was stored and printed.
 #![tactic(auto)]
 
 mod answer;

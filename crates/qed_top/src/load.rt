@@ -23,7 +23,7 @@ fn read_fault(alloc: Global) -> Result<Answer, AllocError>
     Ok(plain(Status::ReadFault, text))
 }
 
-/// The bytes of the file that a command reads, or the answer that they are not had: a read fault, or above the limit.
+/// The bytes of the file that a command reads, or the answer without them: a read fault, or above the limit.
 pub fn read_file<S: Shelf>(
     alloc: Global,
     name: &str,
@@ -40,7 +40,7 @@ pub fn read_file<S: Shelf>(
     ensures steady { IfOk result (λ read. IfErr read (SteadyOrReadFault (IsSteady S.Shelf shelf.old shelf.new))) }
     ensures memory { OnErr result (IsSteady S.Shelf shelf.old shelf.new) }
 {
-    // Made before the load, so that want of memory comes before a fault and not in its place.
+    // Made before the load, so that want of memory shows before a fault, not instead of it.
     let fault = read_fault(alloc)?;
     match shelf.load(alloc, name, limit.most()) {
         Ok(bytes) => Ok(Ok(bytes)),

@@ -21,7 +21,7 @@ use qed_words::{Order, Reason};
 use report::{told_text, usage_text};
 use std::alloc::{AllocError, Global};
 
-/// The name of the file that an order reads, where there is one.
+/// The name of the file that an order reads, if it reads one.
 pub fn source_name(order: &Order) -> Option<&str>
     ensures { option_copied result ≡ source_name_of order.now }
 {
@@ -49,7 +49,7 @@ pub fn source_limit(order: &Order) -> Limit
     }
 }
 
-/// The answer where the words ask for nothing.
+/// The answer if the words ask for nothing.
 pub fn usage(alloc: Global, reason: Reason) -> Result<Answer, AllocError>
     ensures { IfOk result (IsUsage reason) }
 {
@@ -57,7 +57,7 @@ pub fn usage(alloc: Global, reason: Reason) -> Result<Answer, AllocError>
     Ok(plain(Status::Usage, text))
 }
 
-/// What an order that reads no more than one file calls for over its bytes.
+/// What an order that reads at most one file calls for over its bytes.
 pub fn answer_order(
     alloc: Global,
     order: Order,
@@ -100,7 +100,7 @@ pub fn answer_order(
             let text = told_text(alloc, topic)?;
             Ok(plain(Status::Done, text))
         }
-        // It reads several files, and one is too few.
+        // It reads several files; one is too few.
         Order::Harts(_, _, _) => Ok(usage(alloc, Reason::MissingFile)?),
     }
 }

@@ -1,4 +1,4 @@
-//! The program over what the machine hands it.
+//! The program over what the machine passes it.
 ghost use Rattle.std.specs.Prelude.{◌≡◌, ◌↔◌, IfOk, IsErr, IfErr};
 ghost use Rattle.std.specs.IoError.{error_kind};
 ghost use Rattle.std.specs.Vec.Iter.{into_iter_items};
@@ -20,7 +20,7 @@ use std::io::ErrorKind;
 use std::process::ExitCode;
 use std::{env, io};
 
-/// The words that are left.
+/// The remaining words.
 fn collected(alloc: Global, rest: Args) -> Result<Vec<String>, AllocError>
     ensures { IfOk result (λ words. words.items ≡ into_iter_items rest) }
 {
@@ -31,16 +31,16 @@ fn collected(alloc: Global, rest: Args) -> Result<Vec<String>, AllocError>
     Ok(words)
 }
 
-/// The words after the program's name. Arguments that cannot be read are no words, which are those of no command.
+/// The words after the program's name. Unreadable arguments are no words; no command has these.
 ///
-/// Errors: want of memory, where the machine had none for the arguments, or where there is none for the words.
+/// Errors: want of memory, if the machine had none for the arguments, or if there is none for the words.
 fn words_of(alloc: Global, arguments: io::Result<Args>) -> Result<Vec<String>, AllocError>
     ensures words { IfOk result (λ words. texts words.items ≡ words_after arguments) }
     ensures unread { IfErr arguments (λ error. IsErr result ↔ (error_kind error ≡ ErrorKind.OutOfMemory)) }
 {
     match arguments {
         Ok(mut all) => {
-            // The program's name is no word of a command.
+            // The program's name is not a word of a command.
             let _ = all.next();
             let words = collected(alloc, all)?;
             Ok(words)
@@ -52,7 +52,7 @@ fn words_of(alloc: Global, arguments: io::Result<Args>) -> Result<Vec<String>, A
     }
 }
 
-/// Does what the arguments ask for, and gives the code of the status with which that ends.
+/// Does what the arguments ask for, and returns the code of the status with which that ends.
 pub fn exit_code<S: Shelf, K: Sink>(
     alloc: Global,
     arguments: io::Result<Args>,
@@ -61,7 +61,7 @@ pub fn exit_code<S: Shelf, K: Sink>(
     progress: &mut dyn Progress,
 ) -> ExitCode
     ensures exits { Exits (call_on S.Shelf K.Sink (words_after arguments) shelf.old shelf.new out.old out.new) result }
-    // Where the machine had no memory for the arguments, the call was not made.
+    // If the machine had no memory for the arguments, no call was made.
     ensures no_memory { IfErr arguments (λ error. error_kind error ≡ ErrorKind.OutOfMemory → exit_status result ≡ status_code Status.Memory) }
     ensures not_made { IfErr arguments (λ error. error_kind error ≡ ErrorKind.OutOfMemory → (shelf.new ≡ shelf.old) × (out.new ≡ out.old)) }
 {
@@ -74,11 +74,11 @@ pub fn exit_code<S: Shelf, K: Sink>(
     }
 }
 
-/// The whole program: over the machine's arguments, its files and its standard output. Behind it standard error tells why
-/// it did not do what it is for, which has no part in the rest.
+/// The whole program: over the machine's arguments, its files and its standard output. After a
+/// failure it prints the reason on standard error, which affects nothing else.
 ///
-/// No contract can say what the machine's arguments are, nor what its files have: `exit_code` says what is done with
-/// them.
+/// No contract can say what the machine's arguments are, nor what its files hold: `exit_code` says
+/// what is done with them.
 pub fn run_program(rt: &HostRuntime) -> ExitCode
     ensures { ExitsUntold result }
 {

@@ -1,4 +1,4 @@
-//! Answers for files that are refused, or above a limit.
+//! Answers for files that are refused, or exceed a limit.
 ghost use Rattle.std.specs.Prelude.{◌≡◌, ◌≢◌, IfOk, OnOk};
 ghost use Rattle.qed_words.specs.Text.Errors.{error_line};
 ghost use Rattle.qed_top.specs.Answer.{PrintsOnly};
@@ -14,7 +14,7 @@ use report::{admit_text, error_text};
 use std::alloc::{AllocError, Global};
 use transform::TransformError;
 
-/// The status that goes with a file that is not read.
+/// The status for a file that is not read.
 fn status_of(error: ElfError) -> Status
     ensures { result ≡ error_status error }
 {
@@ -24,7 +24,7 @@ fn status_of(error: ElfError) -> Status
     }
 }
 
-/// The answer for a file that is not read. Want of memory is answered as such.
+/// The answer for a file that is not read. For want of memory it fails.
 pub fn unread(alloc: Global, error: ElfError) -> Result<Answer, AllocError>
     ensures answer { IfOk result (PrintsOnly (error_status error) (error_line error)) }
     ensures memory { OnOk result (error ≢ ElfError.Memory) }
@@ -33,7 +33,7 @@ pub fn unread(alloc: Global, error: ElfError) -> Result<Answer, AllocError>
     Ok(plain(status_of(error), text))
 }
 
-/// The status that goes with a test that is not admitted.
+/// The status for a test that is not admitted.
 fn admit_status_of(rule: AdmitError) -> Status
     ensures { result ≡ admit_status rule }
 {
@@ -45,7 +45,7 @@ fn admit_status_of(rule: AdmitError) -> Status
     }
 }
 
-/// The answer for a test that is not admitted. Want of memory is answered as such.
+/// The answer for a test that is not admitted. For want of memory it fails.
 pub fn not_admitted(alloc: Global, rule: &AdmitError) -> Result<Answer, AllocError>
     requires { HasEnds rule.now }
     ensures answer { IfOk result (PrintsOnly (admit_status rule.now) (admit_line rule.now)) }
@@ -55,7 +55,7 @@ pub fn not_admitted(alloc: Global, rule: &AdmitError) -> Result<Answer, AllocErr
     Ok(plain(admit_status_of(*rule), text))
 }
 
-/// The answer for a file that is not transformed. Want of memory is answered as such.
+/// The answer for a file that is not transformed. For want of memory it fails.
 pub fn refused(alloc: Global, error: &TransformError) -> Result<Answer, AllocError>
     requires { TellsEnds error.now }
     ensures answer { IfOk result (PrintsOnly (refusal_status error.now) (refusal_line error.now)) }

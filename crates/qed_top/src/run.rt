@@ -24,8 +24,8 @@ use std::alloc::{AllocError, Global};
 use std::collections::BTreeSet;
 use test_admission::admit;
 
-/// How a file is run: the greatest number of steps, the changes in the order of their steps, and the address and the length of
-/// the dump in bytes.
+/// How to run a file: the most steps, the changes in the order of their steps, and the address and
+/// length of the dump in bytes.
 #[derive(Debug, Drop)]
 pub struct Way {
     pub steps: u64,
@@ -47,7 +47,7 @@ pub fn memory_size(segments: &[Segment]) -> u128
     size
 }
 
-/// The answer where the segments of a file have more bytes of memory than can be run, and none where they do not.
+/// The answer if the segments of a file have more bytes of memory than can be run; else None.
 pub fn above_memory(alloc: Global, file: &ElfFile) -> Result<Option<Answer>, AllocError>
     ensures { IfOk result (λ above. MatchOption above (memory_bytes file.now.segments ≤ memory_limit) (IsAboveMemory file.now)) }
 {
@@ -71,7 +71,7 @@ fn status_of(outcome: Outcome) -> Status
     }
 }
 
-/// Adds the address of a word that is marked.
+/// Adds the address of a word, if it is marked.
 fn add_marked(list: &mut Vec<u64>, word: &CodeWord, is_marked: bool) -> Result<(), AllocError>
     ensures { OnOk result (Adds list.old.items list.new.items (λ a. (word.now.at == a) && is_marked)) }
 {
@@ -81,7 +81,7 @@ fn add_marked(list: &mut Vec<u64>, word: &CodeWord, is_marked: bool) -> Result<(
     Ok(())
 }
 
-/// The addresses of the code words of a test that are reached, as a list.
+/// The addresses of a test's reached code words, as a list.
 fn reached_list(alloc: Global, test: &Test, file: &ElfFile) -> Result<Vec<u64>, AllocError>
     ensures { IfOk result (λ list. (a : ℕ) → lists list.items a ≡ is_reached_word file.now test.now a) }
 {
@@ -94,7 +94,7 @@ fn reached_list(alloc: Global, test: &Test, file: &ElfFile) -> Result<Vec<u64>, 
     Ok(list)
 }
 
-/// These addresses as a set.
+/// The addresses of a test's reached code words, as a set.
 fn reached_words(alloc: Global, test: &Test, file: &ElfFile) -> Result<BTreeSet<u64>, AllocError>
     ensures { IfOk result (λ set. (a : ℕ) → has_address set a ≡ is_reached_word file.now test.now a) }
 {
@@ -103,7 +103,7 @@ fn reached_words(alloc: Global, test: &Test, file: &ElfFile) -> Result<BTreeSet<
     Ok(set)
 }
 
-/// A machine that was run from the start of a file, and the text about its jumps by register where the test is given.
+/// A machine run from the start of a file, and for a test the text about its indirect jumps.
 fn run_machine(
     alloc: Global,
     file: &ElfFile,
@@ -133,7 +133,7 @@ fn run_machine(
     }
 }
 
-/// What `run` answers for a file that was read, with a line about its jumps by register where the test is given.
+/// What `run` answers for a file that was read; for a test with a line about its indirect jumps.
 fn answer_file(
     alloc: Global,
     file: &ElfFile,
@@ -154,7 +154,7 @@ fn answer_file(
     Ok(plain(status_of(ran.0.outcome()), text))
 }
 
-/// What `run` answers over the bytes of its file, where asked with a line about its jumps by register.
+/// What `run` answers over the bytes of its file, on demand with a line about its indirect jumps.
 pub fn answer_run(
     alloc: Global,
     bytes: &Shared,

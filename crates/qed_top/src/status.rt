@@ -7,9 +7,9 @@ ghost use Rattle.qed_top.specs.Codes.{status_code};
 pub enum Status {
     /// The command did what it is for.
     Done,
-    /// The words are those of no command.
+    /// The words match no command.
     Usage,
-    /// The file is not one that the command takes.
+    /// The command does not take the file.
     Refused,
     /// A limit is exceeded.
     Limit,
@@ -17,13 +17,13 @@ pub enum Status {
     ReadFault,
     /// A file or a text could not be written.
     WriteFault,
-    /// There is no memory.
+    /// Memory ran out.
     Memory,
     /// A check of the test fired.
     Fired,
     /// The test trapped.
     Trapped,
-    /// The test had not ended after the steps that it was given.
+    /// The test had not ended after its steps.
     StepsSpent,
 }
 

@@ -1,24 +1,24 @@
-//! How far a campaign or a run is, for a person.
+//! Shows a person the progress of a campaign or a run.
 
 use campaign::Progress;
 use std::io::{Eprint, IsTerminal};
 use std::time::Instant;
 
-/// Tells on standard error once a second how many strikes, or steps, are made, in a line that is written over and in the end
-/// taken away. It tells nothing where that is no terminal, or where there is no clock.
+/// Prints on standard error, once a second, how many strikes or steps are made, in a line that is
+/// overwritten and removed at the end. Prints nothing without a terminal or a clock.
 #[derive(Drop)]
 pub(crate) struct Ticker<'a> {
     rt: &'a HostRuntime,
     start: Option<Instant>,
-    /// For how many seconds it was told,
+    /// For how many seconds progress was shown.
     seconds: u64,
-    /// how many parts are done, and of how many.
+    /// How many parts are done, and how many there are.
     done: u64,
     all: u64,
 }
 
 impl<'a> Ticker<'a> {
-    /// From now on. Nothing is known of a clock and a terminal, so no contract says what it tells.
+    /// Starts now. Contracts know no clock and no terminal, so none says what it prints.
     pub(crate) fn of(rt: &'a HostRuntime) -> Self {
         let start = if rt.stderr().is_terminal() {
             Instant::now(rt).ok()
@@ -34,7 +34,7 @@ impl<'a> Ticker<'a> {
         }
     }
 
-    /// For how many seconds there is something to tell.
+    /// For how many seconds progress could be shown.
     fn seconds_now(&self) -> u64 {
         match self.start.map(|start| start.elapsed(self.rt)) {
             Some(Ok(time)) => time.as_secs(),

@@ -11,8 +11,8 @@ use campaign::Progress;
 use qed_io::{Shelf, Sink};
 use std::alloc::Global;
 
-/// Does what the words after the program's name ask for: decides the answer, stores its file, and prints its text. Of a campaign and
-/// of a run it tells how far it is.
+/// Does what the words after the program's name ask for: decides the answer, stores its file, and
+/// prints its text. Reports the progress of a campaign and of a run.
 pub fn qed<S: Shelf, K: Sink>(
     alloc: Global,
     words: &[String],
@@ -20,8 +20,8 @@ pub fn qed<S: Shelf, K: Sink>(
     out: &mut K,
     progress: &mut dyn Progress,
 ) -> Status
-    // The headline: after `transform IN OUT` with Done, IN is a test and OUT a program whose runs keep its values and in which
-    // changes are caught. Then why each status comes, with what was stored and printed; and which one comes with no fault.
+    // The headline: after `transform IN OUT` with Done, IN is a test and OUT a program whose runs keep its values and
+    // catch changes. Then: why each status comes, what was stored and printed, and which status comes without faults.
     ensures { Answers (call_on S.Shelf K.Sink (texts words.now) shelf.old shelf.new out.old out.new) result }
 {
     match decide(alloc, words, shelf, progress) {

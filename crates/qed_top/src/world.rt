@@ -47,7 +47,7 @@ fn memory_sizes(files: &[ElfFile]) -> u128
     size
 }
 
-/// The status that goes with how all harts stand.
+/// The status for the ends of all harts.
 fn status_of(world: &World) -> Status
     ensures { result ≡ world_status world.now }
 {
@@ -85,7 +85,7 @@ fn numbers(alloc: Global, count: usize) -> Result<Vec<u64>, AllocError>
     Ok(numbers)
 }
 
-/// The harts that make the turns, where there are `count`.
+/// The harts that make the turns, of `count` harts.
 fn takers(alloc: Global, count: usize, turns: Option<Bytes>) -> Result<Vec<u64>, AllocError>
     ensures { IfOk result (λ harts. harts.items ≡ takers_of count turns) }
 {
@@ -95,7 +95,7 @@ fn takers(alloc: Global, count: usize, turns: Option<Bytes>) -> Result<Vec<u64>,
     }
 }
 
-/// The answer after so many turns.
+/// The answer after `steps` turns.
 fn tell(alloc: Global, mut world: World, harts: &[u64], steps: u64) -> Result<Answer, AllocError>
     requires some { 0 < length harts.now }
     requires harts { (k : ℕ) → k < length harts.now → slice_index harts.now k < length world.world.harts }
@@ -136,7 +136,7 @@ fn play(
     }
 }
 
-/// The file of a name, or the answer where it is not had or not read.
+/// The file of a name, or the answer if it cannot be loaded or read.
 fn read_one<S: Shelf>(
     alloc: Global,
     name: &str,
@@ -163,7 +163,7 @@ fn read_one<S: Shelf>(
     }
 }
 
-/// The files of the names, each read before the next is loaded, or the answer over the first that is not had or not read.
+/// The files of the names, each read before the next is loaded; or the answer for the first that fails.
 fn read_files<S: Shelf>(
     alloc: Global,
     names: &[Name],
@@ -191,8 +191,8 @@ fn read_files<S: Shelf>(
     Ok(Ok(files))
 }
 
-/// What `harts` answers over the files of its names: so many turns, by the harts that are given, which are repeated, or by each
-/// from 0 upwards.
+/// What `harts` answers over the files of its names: the turns, by the given harts, again and
+/// again, or by each hart from 0 upwards.
 pub fn answer_harts<S: Shelf>(
     alloc: Global,
     names: &[Name],

@@ -11,12 +11,12 @@ use Rattle.qed_words.specs.declared.orders.Reason.TheVariants.{ExtraWord}
 use Rattle.qed_words.specs.Tables.{row_of}
 use Rattle.qed_words.specs.Words.{Argument, Empty, Unknown, Given, File, files, first_wrong, name_in, wrong}
 
--- how many files arguments have with one more
+-- how many files there are with one more argument
 more_files : (before : List Argument) (a : Argument) → length (files (before ++ a ∷ [])) ≡ length (files before) + length (filter_map name_in (a ∷ []))
 unfolding files
 more_files before a = ap length (filter_map-append name_in before (a ∷ [])) ∙ length-append (filter_map name_in before) (filter_map name_in (a ∷ []))
 
--- a reason that is not said, in front of another
+-- without any reason, neither this one nor another applies
 pub said_first : (test : Bool) (reason : Reason) (other : Option Reason) → (if test then Some reason else other) ≡ None → (test ≡ false) × (other ≡ None)
 said_first true reason other e = cc
 said_first false reason other e = (refl, e)
@@ -46,6 +46,6 @@ none_yet : (command : Command) → length (files []) ≤ (row_of command).most_f
 unfolding files
 none_yet command = omega arith
 
--- where nothing is wrong with an argument
+-- if no argument is wrong, the files are no more than the command takes
 pub few_files : (command : Command) (given : List Argument) → first_wrong command [] given ≡ None → length (files given) ≤ (row_of command).most_files
 few_files command given e = all_fit command [] given e (none_yet command)

@@ -30,7 +30,7 @@ use Rattle.qed_model.proofs.Lemmas.{in_order_ordered}
 use Rattle.qed_words.specs.Sound.{IsSoundOrder}
 use Rattle.qed_words.proofs.FewFiles.{few_files, neither, said_first}
 
--- ---- where there is no reason
+-- ---- without a reason
 
 abbrev AllNone : List (Option Reason) → Type 0
 AllNone [] = Unit {0}
@@ -50,7 +50,7 @@ IsNumbered key = (count : ℕ) (value : List ℕ) → wrong_value count key valu
 abbrev IsInRange : Key → ℕ → Type 0
 IsInRange key n = is_in_range (option_of key).value n ≡ true
 
--- what else would be said
+-- without the reason the test holds
 said_else : (test : Bool) (reason : Reason) → (if test then None else Some reason) ≡ None → test ≡ true
 said_else true reason e = refl
 said_else false reason e = cc
@@ -63,7 +63,7 @@ if_there : (key : Key) (n : Option ℕ) → IsSomeAnd n (IsInRange key) → IfSo
 if_there key None fits = tt
 if_there key (Some m) fits = fits
 
--- the number that an option was given, if it was given, is in its range
+-- the number given to an option, if any, is in its range
 given_fits : (count : ℕ) (key : Key) (texts : List (List ℕ)) → IsNumbered key → first_reason (map (wrong_value count key) texts) ≡ None → IfSome (option_and_then number (slice_get texts 0)) (IsInRange key)
 given_fits count key [] is e = tt
 given_fits count key (text ∷ texts) is e =
@@ -73,7 +73,7 @@ number_given_fits : (key : Key) (given : List Argument) → IsNumbered key → w
 unfolding wrong_values number_given value_of
 number_given_fits key given is e = given_fits (length (files given)) key (values key given) is e
 
--- the same of an option that must be given
+-- the number given to an option that must be given is in its range
 asked_fits : (count : ℕ) (key : Key) (texts : List (List ℕ)) → IsNumbered key → (length texts == 0) ≡ false → first_reason (map (wrong_value count key) texts) ≡ None → IsSomeAnd (option_and_then number (slice_get texts 0)) (IsInRange key)
 asked_fits count key [] is some e = cc
 asked_fits count key (text ∷ texts) is some e =
@@ -85,12 +85,12 @@ number_there_fits key given is some e = asked_fits (length (files given)) key (v
 
 -- ---- options
 
--- a number that was given is in a range, or its default is
+-- a number is in a range if it was given in the range, or its default is
 in_range : (least most d : ℕ) (n : Option ℕ) → IfSome n (λ m. (nat_le least m && nat_le m most) ≡ true) → (least ≤ d) × (d ≤ most) → (least ≤ unwrap_or n d) × (unwrap_or n d ≤ most)
 in_range least most d None fits default = default
 in_range least most d (Some m) fits default = (grind (arith, nat_tests), grind (arith, nat_tests))
 
--- the same of a number that must be given
+-- a number that must be given is in a range
 there_in_range : (least most d : ℕ) (n : Option ℕ) → IsSomeAnd n (λ m. (nat_le least m && nat_le m most) ≡ true) → (least ≤ unwrap_or n d) × (unwrap_or n d ≤ most)
 there_in_range least most d None fits = absurd fits
 there_in_range least most d (Some m) fits = (grind (arith, nat_tests), grind (arith, nat_tests))
@@ -106,7 +106,7 @@ half_fits (Some h) fits = (grind (arith, nat_tests), grind (arith, nat_tests), g
 leaves_room : (m n : ℕ) → (if nat_lt (n + 1) (2 * m) then Some Split else None) ≡ None → 2 * m ≤ n + 1
 leaves_room m n e = let h = (said_first (nat_lt (n + 1) (2 * m)) Split None e).0 in grind (arith, nat_tests, h)
 
--- what holds of the options where no option says otherwise
+-- facts on the default options
 record AreUsual (o : Options) : Type 0 where
   floor : 1 ≤ o.inst_min
   some : 1 ≤ o.inst_max
@@ -124,12 +124,12 @@ usual_fit given =
       | false ↦ record { floor = omega arith; some = omega arith; most = omega arith; visits = omega arith; few_visits = omega arith; lean = omega arith }
     ]
 
--- only entries that are reached, and more steps from check to check than a block has
+-- only reached addresses have entries, and a check comes after more steps than a block has
 entries_fit : (entries : Entries) (most every : ℕ) → misfit entries most every ≡ None → (entries ≡ entry.Reached) × (most < every)
 entries_fit entry.All most every e = cc
 entries_fit entry.Reached most every e = (refl, let h = (said_first (nat_le every most) (FewSteps most) None e).0 in grind (arith, nat_tests, h))
 
--- a number of steps that was given, or the usual one
+-- the number of steps that was given, or the default
 every_fits : (every : Option ℕ) (usual : ℕ) → IfSome every (IsInRange Every) → usual ≤ 2047 → unwrap_or every usual ≤ 2047
 every_fits None usual fits most = most
 every_fits (Some n) usual fits most = grind (arith, nat_tests)
@@ -149,7 +149,7 @@ lean_fits o every (Some usual) fits few most e =
     let fit : (o.entries ≡ entry.Reached) × (block_steps o < unwrap_or every usual) = entries_fit o.entries (block_steps o) (unwrap_or every usual) e in
     (fit.0, every_fits every usual fits few, subst (λ m. entry_steps o.land + 27 + cost_of o.diverse * m < unwrap_or every usual) (least_is o.inst_max 1024 most) fit.1)
 
--- the options that are given are sound, where each value fits, the floor leaves room, and so do the steps from check to check
+-- the given options are sound if each value fits, and the floor and the steps from check to check leave room
 options_fit :
     (own : List Key) (given : List Argument)
     → AllNone (map (wrong_values given) (weave own))

@@ -1,4 +1,4 @@
--- The arguments of the code, as those of the definition.
+-- The arguments of the code as the definition sees them.
 use Rattle.qed_words.specs.Words as defined
 use Rattle.qed_words.specs.declared.argument.Argument.{Argument}
 use Rattle.qed_words.specs.declared.argument.Argument.TheVariants as argument

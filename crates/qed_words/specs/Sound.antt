@@ -1,4 +1,4 @@
--- What the calls that carry out an order ask of it.
+-- What calls that carry out an order require of it.
 use Rattle.std.specs.Prelude.{ℕ, ◌+◌, ◌^◌, ◌≤◌, ◌<◌, List, Option, IfSome, All, length}
 use Rattle.qed_model.specs.declared.change.Change.{Change}
 use Rattle.qed_words.specs.declared.orders.Order.{Order}
@@ -7,7 +7,7 @@ use Rattle.qed_words.specs.declared.orders.Order.TheVariants.{Transform, Plan, E
 use Rattle.qed_model.specs.Promise.Changed.{Ordered}
 use Rattle.qed_model.specs.Weave.SoundOptions.{AreSoundOptions}
 
--- the steps of changes do not fall, and a dump has 1 to 65,536 bytes, which end at 2^64 at most
+-- the steps of changes do not fall, and a dump has 1 to 65,536 bytes and ends at 2^64 or below
 pub record IsSoundRun (steps : ℕ) (changes : List Change) (dump : Option (ℕ × ℕ)) : Type 0 where
   pub few : steps ≤ 1000000000000
   pub ordered : Ordered changes

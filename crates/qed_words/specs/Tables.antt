@@ -18,7 +18,7 @@ place_among words text = position_from (λ word. bytes_eq word text) 0 words
 
 -- ---- options
 
--- what an option takes: its name without dashes, what its value is, the words that it may be, and how often the option may be given
+-- what an option takes: its name without dashes, its kind of value, the words that it may be, and how often it may come
 pub record KeyRow : Type 0 where
   pub name : List ℕ
   pub value : Value
@@ -56,7 +56,7 @@ option_of Land = once (codes "land") Flag
 
 -- ---- commands
 
--- what a command takes: its names, the least and the most files, its options in the order in which their values are looked at, and those that must be given
+-- what a command takes: names, least and most files, options in the order of their checks, and required ones
 pub record CommandRow : Type 0 where
   pub names : List (List ℕ)
   pub least_files : ℕ
@@ -67,7 +67,7 @@ pub record CommandRow : Type 0 where
 abbrev pub row : List (List ℕ) → ℕ → ℕ → List Key → List Key → CommandRow
 row names least most keys required = record { names = names; least_files = least; most_files = most; keys = keys; required = required }
 
--- the options of a transformation, and more
+-- the options of a transformation, then others
 abbrev pub weave : List Key → List Key
 weave own = InstMin ∷ InstMax ∷ Round ∷ Half ∷ Entries ∷ Sweep ∷ Diverse ∷ Lean ∷ Every ∷ Land ∷ own
 
@@ -84,7 +84,7 @@ row_of Harts = row (codes "harts" ∷ []) 1 8 (Turns ∷ Steps ∷ []) []
 row_of Help = row (codes "help" ∷ codes "--help" ∷ codes "-h" ∷ []) 0 1 [] []
 row_of Version = row (codes "version" ∷ codes "--version" ∷ []) 0 0 [] []
 
--- in the order of the texts
+-- all commands, in the order of the texts
 abbrev pub commands : List Command
 commands = Transform ∷ Plan ∷ Explain ∷ Run ∷ Campaign ∷ Gen ∷ command.List ∷ Asm ∷ Harts ∷ Help ∷ Version ∷ []
 

@@ -1,4 +1,4 @@
--- What is printed.
+-- The printed texts.
 pub mod Plan
 pub mod Run
 pub mod Errors

@@ -69,7 +69,7 @@ change_in (Some parts) = change_from (number parts.0) (parted equals parts.1)
 unfoldable pub fault : List ℕ → Option Change
 fault text = change_in (parted colon text)
 
--- an address and a length from 1 to 65,536 that end at 2^64 at most
+-- an address and a length from 1 to 65,536, with their end at 2^64 or below
 abbrev pub span_of : Option ℕ → Option ℕ → Option (ℕ × ℕ)
 span_of (Some address) (Some size) =
     if (nat_le 1 size && nat_le size 65536) && nat_le (address + size) (2 ^ 64) then Some (address, size) else None
@@ -97,13 +97,13 @@ turns text = if (nat_le 1 (length text) && nat_le (length text) 64) && list_all 
 -- an argument, with the number of its word
 pub data Argument : Type 0 where
   Empty : ℕ → Argument
-  -- it begins with `-` and is no option of the command
+  -- it begins with `-` and is not an option of the command
   Unknown : ℕ → Argument
-  -- an option and its value, which is empty where there is none, and of a flag is not looked at
+  -- an option and its value: empty if there is none, ignored for a flag
   Given : ℕ → Key → List ℕ → Argument
   File : ℕ → List ℕ → Argument
 
--- what stands behind `--`
+-- the text behind `--`
 unfoldable pub behind_dashes : List ℕ → Option (List ℕ)
 behind_dashes (a ∷ b ∷ rest) = if a == dash && b == dash then Some rest else None
 behind_dashes _ = None
@@ -112,16 +112,16 @@ abbrev pub is_flag : Value → Bool
 is_flag Flag = true
 is_flag _ = false
 
--- an option, where it is no flag
+-- an option, unless it is a flag
 abbrev pub valued : Option Key → Option Key
 valued None = None
 valued (Some key) = if is_flag (option_of key).value then None else Some key
 
--- whether the next word is this word's value: it is `--name`, and the option has a value
+-- whether the next word is this word's value: this word is `--name`, and the option takes a value
 unfoldable pub takes_next : Command → List ℕ → Bool
 takes_next command word = is_some (valued (option_and_then (key_named command) (behind_dashes word)))
 
--- what an option is, where it is one of the command
+-- the argument for an option, if the command has it
 abbrev pub key_argument : ℕ → Option Key → List ℕ → Argument
 key_argument i None value = Unknown i
 key_argument i (Some key) value = Given i key value
@@ -135,17 +135,17 @@ abbrev pub option_argument : Command → ℕ → List ℕ → Option (List ℕ) 
 option_argument command i next None = Unknown i
 option_argument command i next (Some text) = named command i text next (parted equals text)
 
--- what word i is, with the word behind it
+-- the argument that word i is, given the word behind it
 unfoldable pub argument : Command → ℕ → List ℕ → List ℕ → Argument
 argument command i [] next = Empty i
 argument command i (c ∷ cs) next = if c == dash then option_argument command i next (behind_dashes (c ∷ cs)) else File i (c ∷ cs)
 
--- the first of some words, empty where there is none
+-- the first of some words; empty if there is none
 abbrev pub first_text : List (List ℕ) → List ℕ
 first_text [] = []
 first_text (word ∷ words) = word
 
--- what the words from number i on are; the first, where it is the value of the word before it, is not looked at by itself
+-- the arguments that the words from number i on are; the first is skipped if it is the value of the word before it
 abbrev pub arguments : Command → Bool → ℕ → List (List ℕ) → List Argument
 arguments command follows i [] = []
 arguments command true i (word ∷ words) = arguments command false (i + 1) words
@@ -180,7 +180,7 @@ abbrev pub is_value : List ℕ → Bool
 is_value [] = false
 is_value (c ∷ cs) = not (c == dash)
 
--- what is wrong with an argument, where those before it are known
+-- what is wrong with an argument, given those before it
 unfoldable pub wrong : Command → List Argument → Argument → Option Reason
 wrong command before (Empty i) = Some (EmptyWord i)
 wrong command before (Unknown i) = Some (UnknownOption i)
@@ -190,12 +190,12 @@ wrong command before (Given i key value) =
     else Some (MissingValue i)
 wrong command before (File i name) = if nat_le (row_of command).most_files (length (files before)) then Some (ExtraWord i) else None
 
--- the first reason of some
+-- the first of some reasons
 abbrev pub first_reason : List (Option Reason) → Option Reason
 first_reason [] = None
 first_reason (reason ∷ reasons) = option_or reason (first_reason reasons)
 
--- what is wrong with the first argument of which something is
+-- what is wrong with the first wrong argument
 abbrev pub first_wrong : Command → List Argument → List Argument → Option Reason
 first_wrong command before [] = None
 first_wrong command before (a ∷ rest) = option_or (wrong command before a) (first_wrong command (before ++ a ∷ []) rest)
@@ -218,7 +218,7 @@ abbrev pub wrong_number : Key → Option ℕ → Option Reason
 wrong_number key None = Some (BadNumber key)
 wrong_number key (Some n) = if is_in_range (option_of key).value n then None else Some (OutOfRange key)
 
--- each hart has a file
+-- what is wrong with turns: each hart must have a file
 abbrev pub wrong_turns : ℕ → Option (List ℕ) → Option Reason
 wrong_turns count None = Some (BadShape Turns)
 wrong_turns count (Some harts) = if list_all (λ hart. nat_lt hart count) harts then None else Some (OutOfRange Turns)
@@ -234,28 +234,28 @@ wrong_text count key value.Turns text = wrong_turns count (turns text)
 wrong_text count key Word text = wrong_shape key (is_some (place_among (option_of key).words text))
 wrong_text count key _ text = wrong_number key (number text)
 
--- what is wrong with a value, where there are `count` files
+-- what is wrong with a value, for `count` files
 unfoldable pub wrong_value : ℕ → Key → List ℕ → Option Reason
 wrong_value count key text = wrong_text count key (option_of key).value text
 
--- what is wrong with the first value of an option of which something is
+-- what is wrong with the first wrong value of an option
 unfoldable pub wrong_values : List Argument → Key → Option Reason
 wrong_values given key = first_reason (map (wrong_value (length (files given)) key) (values key given))
 
--- the same, of the first option of which something is
+-- what is wrong with the first wrong value, option by option
 unfoldable pub first_wrong_value : Command → List Argument → Option Reason
 first_wrong_value command given = first_reason (map (wrong_values given) (row_of command).keys)
 
 -- ---- the options of a transformation
 
--- the first value that an option was given
+-- the first value given to an option
 unfoldable pub value_of : Key → List Argument → Option (List ℕ)
 value_of key given = slice_get (values key given) 0
 
 unfoldable pub number_given : Key → List Argument → Option ℕ
 number_given key given = option_and_then number (value_of key given)
 
--- the place of the word that an option was given among its words
+-- which of an option's words was given, by its place
 unfoldable pub word_given : Key → List Argument → Option ℕ
 word_given key given = option_and_then (place_among (option_of key).words) (value_of key given)
 
@@ -263,7 +263,7 @@ word_given key given = option_and_then (place_among (option_of key).words) (valu
 abbrev pub entries : ℕ → weave.Entries
 entries n = if n == 0 then entry.All else entry.Reached
 
--- the options of the lean form where no option says otherwise: longer pieces and more visits, since one check is for many blocks
+-- the default options of the lean form: longer pieces and more visits, since one check serves many blocks
 abbrev pub lean_options : Options
 lean_options = record { inst_min = 4; inst_max = LEAN_INST_MAX; round = LEAN_ROUND; half = None; sweep = false; diverse = false; entries = entry.Reached; lean = Some LEAN_EVERY; land = false }
 
@@ -273,7 +273,7 @@ usual_options given = if lacks given Lean then default_options else lean_options
 abbrev pub greatest_piece : List Argument → ℕ
 greatest_piece given = unwrap_or (number_given InstMax given) (usual_options given).inst_max
 
--- the floor, where none is given, is no greater than the greatest piece leaves room for
+-- a floor that is not given is at most what the greatest piece leaves room for
 unfoldable pub options : List Argument → Options
 options given = record {
   inst_min = unwrap_or (number_given InstMin given) (min (usual_options given).inst_min ((greatest_piece given + 1) / 2));
@@ -301,7 +301,7 @@ changes_given given = in_order (filter_map fault (values Fault given))
 unfoldable pub file : List Argument → ℕ → List ℕ
 file given i = slice_index_or (files given) i []
 
--- what `help` tells of: a command, or all
+-- the topic of `help`: a command, or all
 abbrev pub topic_of : Option Command → Topic
 topic_of None = topic.All
 topic_of (Some command) = topic.One command
@@ -314,7 +314,7 @@ places n = if n == 0 then aim.Registers else aim.Words
 unfoldable pub steps_given : List Argument → ℕ
 steps_given given = unwrap_or (number_given Steps given) 1000000
 
--- without `--changes` a strike is one change, and without the options behind it the output is struck in all places and steps
+-- without `--changes` a strike is one change; without the options after it the output is struck at all places and steps
 unfoldable pub draws : List Argument → Draws
 draws given = record {
   seed = unwrap_or (number_given Seed given) 0;
@@ -339,19 +339,19 @@ order_of Version given = order.Tell topic.Version
 
 -- ---- what is asked
 
--- a floor that is not given leaves room, so this comes only of commands that have the option
+-- a floor that is not given leaves room, so only commands with the option have this reason
 unfoldable pub split_reason : List Argument → Option Reason
 split_reason given = if is_split (options given) then Some Split else None
 
--- only the lean form has steps from check to check, and entries that test the signature or do not
+-- only the lean form counts steps from check to check, and has a choice whether entries test the signature
 unfoldable pub missing_lean : List Argument → Option Reason
 missing_lean given = if lacks given Lean && not (lacks given Every && lacks given Land) then Some (MissingOption Lean) else None
 
--- the most steps of a block of the lean form: those of its entry, of one piece, which has 1024 instructions at most, and of its leave
+-- the most steps of a block of the lean form: of its entry, of one piece of at most 1024 instructions, and of its leave
 abbrev pub block_steps : Options → ℕ
 block_steps o = entry_steps o.land + LEAN_LEAVE_STEPS + cost_of o.diverse * min o.inst_max 1024
 
--- the lean form has only entries that are reached, and more steps from check to check than a block has
+-- the lean form has entries only for reached addresses, and more steps from check to check than a block has
 abbrev pub misfit : weave.Entries → ℕ → ℕ → Option Reason
 misfit entry.All most every = Some AllEntries
 misfit entry.Reached most every = if nat_le every most then Some (FewSteps most) else None
@@ -359,7 +359,7 @@ misfit entry.Reached most every = if nat_le every most then Some (FewSteps most)
 unfoldable pub lean_reason : List Argument → Option Reason
 lean_reason given = option_and_then (misfit (options given).entries (block_steps (options given))) (options given).lean
 
--- the least step is below the end of the steps, where both are given
+-- whether the least step is not below the end of the steps, if both are given
 abbrev pub is_empty : Option ℕ → Option ℕ → Bool
 is_empty (Some from) (Some to) = nat_le to from
 is_empty _ _ = false
@@ -367,12 +367,12 @@ is_empty _ _ = false
 unfoldable pub window_reason : List Argument → Option Reason
 window_reason given = if is_empty (number_given From given) (number_given To given) then Some (OutOfRange To) else None
 
--- the word behind `help`, where there is one, names a command
+-- why the word behind `help` is wrong: it must name a command, if it is there
 unfoldable pub topic_reason : Command → List Argument → Option Reason
 topic_reason Help given = if length (files given) == 0 || is_some (command_of (file given 0)) then None else Some UnknownCommand
 topic_reason _ given = None
 
--- the first reason why arguments are no order
+-- the first reason why arguments do not make an order
 unfoldable pub reason_of : Command → List Argument → Option Reason
 reason_of command given =
     first_reason

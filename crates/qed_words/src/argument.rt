@@ -1,4 +1,4 @@
-//! What a word is.
+//! The kinds of words.
 ghost use Rattle.std.specs.Prelude.{◌≡◌};
 ghost use Rattle.std.specs.Option.{option_copied};
 ghost use Rattle.qed_words.specs.Tables.{option_of};
@@ -12,14 +12,14 @@ use texts::split_once;
 #[derive(Clone, Copy)]
 pub enum Argument<'a> {
     Empty(u64),
-    /// It begins with `-` and is no option of the command.
+    /// It begins with `-` and is not an option of the command.
     Unknown(u64),
-    /// An option and its value, which is empty where there is none, and of a flag is not looked at.
+    /// An option and its value: empty if there is none, ignored for a flag.
     Given(u64, Key, &'a [u8]),
     File(u64, &'a str),
 }
 
-/// What stands behind `--`.
+/// The text behind `--`.
 #[tactic(auto, unfolding(crate::specs::Words::behind_dashes))]
 fn behind_dashes(word: &[u8]) -> Option<&[u8]>
     ensures { option_copied result ≡ behind_dashes_of word.now }
@@ -37,7 +37,7 @@ pub fn is_flag(key: Key) -> bool
     matches!(key.row().value, Value::Flag)
 }
 
-/// An option, where it is no flag.
+/// An option, unless it is a flag.
 fn valued(key: Option<Key>) -> Option<Key>
     ensures { result ≡ valued_of key }
 {
@@ -56,7 +56,7 @@ pub fn takes_next(command: Command, word: &[u8]) -> bool
     }
 }
 
-/// What an option is, where it is one of the command.
+/// The argument for an option, if the command has it.
 fn key_argument<'a>(number: u64, key: Option<Key>, value: &'a [u8]) -> Argument<'a>
     ensures { seen result ≡ key_argument_of number key value.now }
 {
@@ -66,7 +66,7 @@ fn key_argument<'a>(number: u64, key: Option<Key>, value: &'a [u8]) -> Argument<
     }
 }
 
-/// What a word is that begins with `-`.
+/// The argument that a word with `-` in front is.
 fn option_argument<'a>(
     command: Command,
     number: u64,
@@ -84,7 +84,7 @@ fn option_argument<'a>(
     }
 }
 
-/// What a word is, by its number and with the word behind it.
+/// The argument that a word is, by its number, given the word behind it.
 #[tactic(auto, unfolding(crate::specs::Words::argument))]
 pub fn read_word<'a>(command: Command, number: u64, word: &'a str, next: &'a [u8]) -> Argument<'a>
     ensures { seen result ≡ argument_of command number word.now next.now }

@@ -1,4 +1,4 @@
-//! What all words are.
+//! The arguments that all words are.
 ghost use Rattle.std.specs.Prelude.{◌≡◌, false, map, IfOk};
 ghost use Rattle.qed_words.specs.Words.{texts, arguments as arguments_of, first_text as first_text_of};
 ghost use Rattle.qed_words.specs.Seen.{seen};
@@ -7,7 +7,7 @@ use crate::Command;
 use crate::argument::{Argument, read_word, takes_next};
 use std::alloc::{AllocError, Global};
 
-/// The first of some words, empty where there is none.
+/// The first of some words; empty if there is none.
 fn first_text(words: &[String]) -> &[u8]
     ensures { result.now ≡ first_text_of (texts words.now) }
 {
@@ -17,7 +17,7 @@ fn first_text(words: &[String]) -> &[u8]
     }
 }
 
-/// What the words behind the command are.
+/// The arguments that the words behind the command are.
 pub fn arguments(
     alloc: Global,
     command: Command,

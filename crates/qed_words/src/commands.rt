@@ -12,9 +12,9 @@ pub struct CommandRow {
     pub names: &'static [&'static str],
     pub least_files: usize,
     pub most_files: usize,
-    /// The options, in the order in which their values are looked at.
+    /// The options, in the order in which their values are checked.
     pub keys: &'static [Key],
-    /// Those that must be given.
+    /// The options that must be given.
     pub required: &'static [Key],
 }
 
@@ -23,8 +23,8 @@ pub const COMMANDS: [Command; 11] = [
     Transform, Plan, Explain, Run, Campaign, Gen, List, Asm, Harts, Help, Version,
 ];
 
-// A row: names, the least and the most files, options, options that must be given. `weave` puts the options of `transform`
-// in front.
+// A row: names, the least and the most files, options, options that must be given. `weave` puts the
+// options of `transform` in front.
 macro_rules! row {
     ($names:expr, $least:literal, $most:literal, weave [$($key:ident),*], [$($required:ident),*]) => {
         row!($names, $least, $most, [InstMin, InstMax, Round, Half, Entries, Sweep, Diverse, Lean, Every, Land $(, $key)*], [$($required),*])

@@ -1,4 +1,4 @@
-//! Why there is no order.
+//! Why words give no order.
 ghost use Rattle.std.specs.Prelude.{◌≡◌};
 ghost use Rattle.qed_words.specs.declared.error.WordsError.TheVariants as error;
 
@@ -9,10 +9,10 @@ use thiserror::Error;
 /// Why words give no order.
 #[derive(Clone, Copy, Debug, Error)]
 pub enum WordsError {
-    /// The words ask for none: the first reason.
+    /// The words ask for nothing: the first reason.
     #[error("the words ask for nothing: {0:?}")]
     Usage(Reason),
-    /// There is no memory.
+    /// Memory ran out.
     #[error("out of memory")]
     Memory,
 }

@@ -1,4 +1,4 @@
-//! What was given.
+//! The files and values that were given.
 ghost use Rattle.std.specs.Prelude.{◌≡◌, map, length};
 ghost use Rattle.std.specs.Option.{option_copied};
 ghost use Rattle.qed_words.specs.Words.{name_in as name_in_of, files, file as file_of, value_in as value_in_of, values, value_of, lacks as lacks_of, number_given as number_given_of, word_given as word_given_of};
@@ -31,7 +31,7 @@ pub fn count_files(arguments: &[Argument<'_>]) -> usize
     count
 }
 
-/// The value that an argument gives an option.
+/// The value that an argument gives to an option.
 pub fn value_in<'a>(key: Key, argument: Argument<'a>) -> Option<&'a [u8]>
     ensures { option_copied result ≡ value_in_of key (seen argument.entry) }
 {
@@ -55,7 +55,7 @@ pub fn count_values(key: Key, arguments: &[Argument<'_>]) -> usize
     count
 }
 
-/// The first value that an option was given.
+/// The first value given to an option.
 #[tactic(auto, unfolding(crate::specs::Words::values, crate::specs::Words::value_of))]
 pub fn first_value<'a>(key: Key, arguments: &[Argument<'a>]) -> Option<&'a [u8]>
     ensures { option_copied result ≡ value_of key (map seen arguments.now) }
@@ -69,7 +69,7 @@ pub fn first_value<'a>(key: Key, arguments: &[Argument<'a>]) -> Option<&'a [u8]>
     None
 }
 
-/// The number that an option was given.
+/// The number given to an option.
 #[tactic(auto, unfolding(crate::specs::Words::number_given))]
 pub fn number_given(key: Key, arguments: &[Argument<'_>]) -> Option<u64>
     ensures { result ≡ number_given_of key (map seen arguments.now) }
@@ -77,7 +77,7 @@ pub fn number_given(key: Key, arguments: &[Argument<'_>]) -> Option<u64>
     number(first_value(key, arguments)?)
 }
 
-/// The place of the word that an option was given among its words.
+/// Which of an option's words was given, by its place.
 #[tactic(auto, unfolding(crate::specs::Words::word_given))]
 pub fn word_given(key: Key, arguments: &[Argument<'_>]) -> Option<usize>
     ensures { result ≡ word_given_of key (map seen arguments.now) }
@@ -93,7 +93,7 @@ pub fn lacks(arguments: &[Argument<'_>], key: Key) -> bool
     count_values(key, arguments) == 0
 }
 
-/// The name of file number `place`, empty where there is none.
+/// The name of file number `place`; empty if there is none.
 #[tactic(auto, unfolding(crate::specs::Words::files, crate::specs::Words::file))]
 pub fn file<'a>(arguments: &[Argument<'a>], place: usize) -> &'a str
     ensures { result.now ≡ file_of (map seen arguments.now) place }

@@ -5,10 +5,10 @@ ghost use Rattle.qed_words.specs.Tables.{option_of};
 use crate::Key;
 use qed_model::limits::MAX_HALF;
 
-/// What the value of an option is.
+/// The kind of an option's value.
 #[derive(Clone, Copy)]
 pub enum Value {
-    /// There is none: the option is a flag.
+    /// None: the option is a flag.
     Flag,
     /// A number from the first to the second.
     Number(u64, u64),
@@ -30,13 +30,13 @@ pub struct KeyRow {
     /// The option's name, without its dashes.
     pub name: &'static str,
     pub value: Value,
-    /// The words that the value may be, where it is a word.
+    /// The words that the value may be, if it is a word.
     pub words: &'static [&'static str],
     /// How often the option may be given.
     pub most: usize,
 }
 
-// A row: a name, what the value is, and, of most options not given, the words that it may be and how often it may be given.
+// A row: name, kind of value; then, if needed, the words that it may be and how often it may be given.
 macro_rules! row {
     ($name:literal, $value:expr) => {
         row!($name, $value, [], 1)

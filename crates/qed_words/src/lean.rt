@@ -1,4 +1,4 @@
-//! Why arguments ask for no lean form.
+//! Why arguments do not ask for a lean form.
 ghost use Rattle.std.specs.Prelude.{◌≡◌, map};
 ghost use Rattle.qed_words.specs.Words.{missing_lean as missing_lean_of, lean_reason as lean_reason_of};
 ghost use Rattle.qed_words.specs.Seen.{seen};
@@ -10,7 +10,7 @@ use crate::{Key, Reason};
 use qed_model::Entries;
 use qed_model::steps::{LEAN_LEAVE_STEPS, entry_steps, lean_instruction_steps};
 
-/// That an option of the lean form is given, and not the form.
+/// An option of the lean form is given, but not the form.
 #[tactic(auto, unfolding(crate::specs::Words::missing_lean))]
 pub fn missing_lean(arguments: &[Argument<'_>]) -> Option<Reason>
     ensures { result ≡ missing_lean_of (map seen arguments.now) }
@@ -20,7 +20,7 @@ pub fn missing_lean(arguments: &[Argument<'_>]) -> Option<Reason>
     is_alone.then_some(Reason::MissingOption(Key::Lean))
 }
 
-/// What is wrong with the options of the lean form, where it is asked for.
+/// What is wrong with the options of the lean form, if it is asked for.
 #[tactic(auto, unfolding(crate::specs::Words::lean_reason))]
 pub fn lean_reason(arguments: &[Argument<'_>]) -> Option<Reason>
     ensures { result ≡ lean_reason_of (map seen arguments.now) }

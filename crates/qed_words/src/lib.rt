@@ -1,5 +1,5 @@
-//! What the words of the command line ask for: an order, or the first reason why they ask for none; and the definitions of what is
-//! printed.
+//! What the words of the command line ask for: an order, or the first reason why they ask for none.
+//! Also the definitions of the printed texts.
 #![tactic(auto)]
 
 mod argument;

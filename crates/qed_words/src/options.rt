@@ -27,7 +27,7 @@ fn entries(place: usize) -> Entries
     }
 }
 
-/// The options where no other option says otherwise.
+/// The defaults: of the lean form if it is asked for.
 #[tactic(auto, unfolding(crate::specs::Words::usual_options))]
 fn usual_options(arguments: &[Argument<'_>]) -> Options
     ensures { result ≡ usual_options_of (map seen arguments.now) }

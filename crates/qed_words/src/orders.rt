@@ -20,7 +20,7 @@ pub enum Command {
     Version,
 }
 
-/// What `help` and `version` tell of.
+/// The topics of `help` and `version`.
 #[derive(Clone, Copy, Debug)]
 pub enum Topic {
     /// All commands.
@@ -37,12 +37,12 @@ pub enum Order {
     Transform(Name, Name, Options),
     /// The input.
     Plan(Name, Options),
-    /// The input, and the address of the word that is told of alone.
+    /// The input, and the address of the word to print alone.
     Explain(Name, Options, Option<u64>),
-    /// The file, the greatest number of steps, the changes in the order of their steps, the address and the length of the
-    /// dump in bytes, and whether it is told of the jumps by register whether they led to addresses that are reached.
+    /// The file, the most steps, the changes in the order of their steps, the address and length of
+    /// the dump in bytes, and whether to report an indirect jump to an address that is not reached.
     Run(Name, u64, Changes, Option<(u64, u64)>, bool),
-    /// The input, the strikes, and whether it is told of each end whether it is right.
+    /// The input, the strikes, and whether to print which ends are right.
     Campaign(Name, Options, Draws, bool),
     /// The output, the seed and the size.
     Gen(Name, u64, u64),
@@ -50,10 +50,10 @@ pub enum Order {
     List(Name),
     /// The text and the output.
     Asm(Name, Name),
-    /// The files, the numbers of the harts that make the turns, which are repeated, and the number of turns. Without
-    /// numbers the harts take turns from 0 upwards.
+    /// The files, the numbers of the harts that make the turns, again and again, and the number of
+    /// turns. By default all harts take turns from 0 upwards.
     Harts(Names, Option<Bytes>, u64),
-    /// What is told, without any file.
+    /// A text that needs no file.
     Tell(Topic),
 }
 
@@ -89,16 +89,16 @@ pub enum Key {
 /// Why words ask for nothing. A number is that of a word; word 0 names the command.
 #[derive(Clone, Copy, Debug)]
 pub enum Reason {
-    /// There is no word.
+    /// The first word is missing.
     NoCommand,
-    /// Word 0 names no command, or that behind `help` does not.
+    /// Word 0 names no command, or the word behind `help` does not.
     UnknownCommand,
     EmptyWord(u64),
-    /// The word begins with `-` and is no option of the command.
+    /// The word begins with `-` and is not an option of the command.
     UnknownOption(u64),
-    /// The option was given before, as often as it may be.
+    /// The option was already given as often as allowed.
     Repeated(u64),
-    /// The option of this word has no value: it is not there, is empty or begins with `-`.
+    /// The option of this word has no value: it is missing, empty or begins with `-`.
     MissingValue(u64),
     /// The word is one file more than the command has.
     ExtraWord(u64),
@@ -110,8 +110,8 @@ pub enum Reason {
     OutOfRange(Key),
     /// The floor of a piece leaves no room: `2 * inst_min` is above `inst_max + 1`.
     Split,
-    /// All entries are asked for, and the lean form.
+    /// All entries and the lean form are both asked for.
     AllEntries,
-    /// The longest block of the lean form has so many steps, and there are no more from check to check.
+    /// The longest block of the lean form has this many steps, which is not below those from check to check.
     FewSteps(u64),
 }

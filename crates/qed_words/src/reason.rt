@@ -1,4 +1,4 @@
-//! The first reason why arguments are no order.
+//! The first reason why arguments do not make an order.
 ghost use Rattle.std.specs.Prelude.{◌≡◌, map};
 ghost use Rattle.qed_words.specs.Words.{window_reason as window_reason_of, topic_reason as topic_reason_of, reason_of};
 ghost use Rattle.qed_words.specs.Seen.{seen};
@@ -11,7 +11,7 @@ use crate::value::first_wrong_value;
 use crate::wrong::{first_wrong, missing};
 use crate::{Command, Key, Reason};
 
-/// That there is no step to strike in.
+/// The output has no step to strike in.
 #[tactic(auto, unfolding(crate::specs::Words::window_reason))]
 fn window_reason(arguments: &[Argument<'_>]) -> Option<Reason>
     ensures { result ≡ window_reason_of (map seen arguments.now) }
@@ -21,7 +21,7 @@ fn window_reason(arguments: &[Argument<'_>]) -> Option<Reason>
     (to <= from).then_some(Reason::OutOfRange(Key::To))
 }
 
-/// That the word behind `help` names no command.
+/// The word behind `help` names no command.
 #[tactic(auto, unfolding(crate::specs::Words::topic_reason))]
 fn topic_reason(command: Command, arguments: &[Argument<'_>]) -> Option<Reason>
     ensures { result ≡ topic_reason_of command (map seen arguments.now) }
@@ -35,7 +35,7 @@ fn topic_reason(command: Command, arguments: &[Argument<'_>]) -> Option<Reason>
     }
 }
 
-/// The first reason why arguments are no order.
+/// The first reason why arguments do not make an order.
 #[tactic(auto, unfolding(crate::specs::Words::reason_of, crate::specs::Words::split_reason))]
 pub fn first_reason(command: Command, arguments: &[Argument<'_>]) -> Option<Reason>
     ensures { result ≡ reason_of command (map seen arguments.now) }

@@ -44,7 +44,7 @@ fn are_turns(text: &[u8]) -> bool
     1 <= text.len() && text.len() <= 64 && are_digits(text)
 }
 
-/// What is wrong with turns, where there are `count` files.
+/// What is wrong with turns, for `count` files.
 #[tactic(auto, unfolding(crate::specs::Words::turns))]
 pub fn wrong_turns(count: usize, text: &[u8]) -> Option<Reason>
     ensures { result ≡ wrong_turns_of count (turns_of text.now) }

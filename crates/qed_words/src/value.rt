@@ -33,7 +33,7 @@ fn wrong_number(key: Key, number: Option<u64>) -> Option<Reason>
     }
 }
 
-/// What is wrong with an option's value, where there are `count` files.
+/// What is wrong with an option's value, for `count` files.
 #[tactic(auto, unfolding(crate::specs::Words::wrong_value))]
 fn wrong_value(count: usize, key: Key, text: &[u8]) -> Option<Reason>
     ensures { result ≡ wrong_value_of count key text.now }
@@ -50,7 +50,7 @@ fn wrong_value(count: usize, key: Key, text: &[u8]) -> Option<Reason>
     (!is_shaped).then_some(Reason::BadShape(key))
 }
 
-/// What is wrong with the first value of an option of which something is.
+/// What is wrong with the first wrong value of an option.
 #[tactic(auto, unfolding(crate::specs::Words::values, crate::specs::Words::wrong_values))]
 fn wrong_values(arguments: &[Argument<'_>], key: Key) -> Option<Reason>
     ensures { result ≡ wrong_values_of (map seen arguments.now) key }
@@ -67,7 +67,7 @@ fn wrong_values(arguments: &[Argument<'_>], key: Key) -> Option<Reason>
     None
 }
 
-/// What is wrong with the values of the first option, in the command's order, of which something is.
+/// What is wrong with the first wrong value, option by option in the command's order.
 #[tactic(auto, unfolding(crate::specs::Words::first_wrong_value))]
 pub fn first_wrong_value(command: Command, arguments: &[Argument<'_>]) -> Option<Reason>
     ensures { result ≡ first_wrong_value_of command (map seen arguments.now) }

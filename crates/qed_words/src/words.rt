@@ -19,7 +19,7 @@ use crate::{Command, Key, Name, Names, Order, Reason, Topic};
 use qed_model::{Aim, Draws, Places};
 use std::alloc::{AllocError, Global};
 
-/// The steps of a run where no option says otherwise.
+/// The default number of steps of a run.
 const DEFAULT_STEPS: u64 = 1_000_000;
 
 /// The name of file number `place`.
@@ -86,7 +86,7 @@ fn draws(arguments: &[Argument<'_>]) -> Draws
     }
 }
 
-/// The order that arguments ask for, where nothing is wrong with them.
+/// The order that arguments ask for, if nothing is wrong with them.
 #[tactic(auto, unfolding(crate::specs::Words::order_of))]
 fn make_order(
     alloc: Global,

@@ -13,7 +13,7 @@ fn is_value(value: &[u8]) -> bool
     value.first().is_some_and(|first| *first != b'-')
 }
 
-/// What is wrong with an argument, where those before it are known.
+/// What is wrong with an argument, given those before it.
 #[tactic(auto, unfolding(crate::specs::Words::wrong))]
 fn wrong(command: Command, before: &[Argument<'_>], argument: Argument<'_>) -> Option<Reason>
     ensures { result ≡ wrong_of command (map seen before.now) (seen argument.entry) }
@@ -34,7 +34,7 @@ fn wrong(command: Command, before: &[Argument<'_>], argument: Argument<'_>) -> O
     }
 }
 
-/// What is wrong with the first argument of which something is.
+/// What is wrong with the first wrong argument.
 pub fn first_wrong(command: Command, arguments: &[Argument<'_>]) -> Option<Reason>
     ensures { result ≡ first_wrong_of command [] (map seen arguments.now) }
 {

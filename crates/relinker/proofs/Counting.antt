@@ -1,4 +1,4 @@
--- Sums that end at 2^64 - 1.
+-- Sums capped at 2^64 - 1.
 use Rattle.std.proofs.Common.{◌≡◌, ℕ, ◌+◌, ◌-◌, ◌^◌, ◌<◌, ◌≤◌, Bool, List, ◌++◌, length, drop, sym, ap, ◌∙◌, arith}
 use Rattle.std.proofs.lemmas.List.{drop_all}
 use Rattle.qed_model.specs.declared.item.Item.{Item}
@@ -16,7 +16,7 @@ pub sum_done :
 sum_done far items total k all small end e =
     omega (arith, small, e, ap (λ is. sum_of_sizes far is) (drop_all k items end))
 
--- what was counted, and more
+-- a count, and more items
 pub more_counted :
     (old new : Count) (done items : List Item) (sum : ℕ) (more : List EntryRow) → new.far ≡ old.far → sum ≡ capped (sum_of_sizes old.far items) → new.bytes ≡ capped (old.bytes + sum)
     → (old.bytes + sum_of_sizes old.far items < 2 ^ 64 - 1 → more ≡ rows_from old.far old.bytes items) → new.marks.items ≡ old.marks.items ++ more → HasCounted old done → HasCounted new (done ++ items)

@@ -1,4 +1,4 @@
--- What is laid out, part by part.
+-- Laying out, part by part.
 use Rattle.std.proofs.Common.{◌≡◌, ℕ, ◌+◌, ◌*◌, ◌^◌, ◌<◌, ◌≤◌, Bool, true, false, List, [], ◌∷◌, ◌++◌, map, Some, sym, ap, ◌∙◌, subst, arith}
 use Rattle.std.specs.Prelude.{pos, vec_len, vec_capacity, Result, Ok, Err, IfOk, IfErr}
 use Rattle.std.specs.Global.{Vec}
@@ -22,7 +22,7 @@ use Rattle.relinker.specs.Sink.{ComeNext}
 use Rattle.relinker.proofs.Joining.{parts_join}
 use Rattle.relinker.proofs.Places.{rows_low, rows_moved, encoded_items, decoded_items}
 
--- ---- what is asked of the next items
+-- ---- demands on the next items
 -- the instructions of the next items have words
 encoded_next :
     (far : Bool) (entry : ℕ → ℕ) (base at : ℕ) (done items rest : List Item) → at ≡ base + sum_of_sizes far done
@@ -40,7 +40,7 @@ encoded_next far entry base at done items rest e all =
 sizes : (far : Bool) (done items rest : List Item) → sum_of_sizes far (done ++ (items ++ rest)) ≡ sum_of_sizes far done + (sum_of_sizes far items + sum_of_sizes far rest)
 sizes far done items rest = (parts_join far (λ a. a) 0 done (items ++ rest)).bytes ∙ ap (λ n. sum_of_sizes far done + n) (parts_join far (λ a. a) 0 items rest).bytes
 
--- what a layout asks of the items that it takes
+-- the demands of a layout on the items that it takes
 pub record Asks (layout : Layout) (items : List Item) : Type 0 where
   pub ascend : EntriesAscend layout.entries.items
   pub low : layout.at + sum_of_sizes layout.far items < 2 ^ 63
@@ -68,7 +68,7 @@ most_least : (far : Bool) (n : ℕ) → n ≤ most_bytes far → n ≤ 67108864
 most_least true n h = h
 most_least false n h = omega (arith, h)
 
--- nothing is laid yet
+-- no item is laid out yet
 pub laid_first :
     (count : Count) (base : ℕ) (entries : Vec EntryRow) (words : Vec ℕ) → base + 134217728 ≤ 2 ^ 63 → count.bytes + 4 ≤ most_bytes count.far → entries.items ≡ map (moved base) count.marks.items
     → words.items ≡ [] → vec_len words ≡ 0 → count.bytes + 4 ≤ 4 * vec_capacity words
@@ -96,7 +96,7 @@ laid_first count base entries words high small moves none empty room items count
       room = omega (arith, room, exact);
     }
 
--- one part more
+-- one more part
 pub laid_more :
     (old : Layout) (items : List Item) (at : ℕ) (words : Vec ℕ) → at ≡ old.at + sum_of_sizes old.far items
     → map decode_of words.items ≡ map decode_of old.words.items ++ map Some (instructions_from old.far (leads_to old.entries.items old.last) old.at items) → AreWords words.items
@@ -124,7 +124,7 @@ laid_more old items at words place decode small len capacity done rest l =
       room = omega (arith, l.room, capacity, ap (λ is. sum_of_sizes old.far is) whole);
     }
 
--- and the stub
+-- the stub
 pub linked_of :
     (layout : Layout) (words : Vec ℕ) → map decode_of words.items ≡ map decode_of layout.words.items ++ (Some (ins Illegal 0 0 0 (pos 0)) ∷ []) → AreWords words.items
     → (done : List Item) → IsLaid layout done [] → IsLinked layout.far layout.base done (record { words = words; entries = layout.entries })
@@ -162,14 +162,14 @@ within count far items same counted h =
     let exact : count.bytes ≡ sum_of_sizes count.far items = omega (arith, counted.bytes, most_least count.far (count.bytes + 4) h) in
     subst (λ f. IsWithinForm f items) same (subst (λ n. n + 4 ≤ most_bytes count.far) exact h)
 
--- so what is laid out is within the limit
+-- laid-out items are within the limit
 pub within_form :
     (count : Count) (far : Bool) (items : List Item) (r : Result Layout LinkError) → count.far ≡ far → HasCounted count items → IfOk r (λ _. count.bytes + 4 ≤ most_bytes count.far)
     → IfOk r (λ _. IsWithinForm far items)
 within_form count far items (Ok layout) same counted h = within count far items same counted h
 within_form count far items (Err e) same counted h = tt
 
--- all items at once, of which none has its words yet
+-- all items at once; none has its words yet
 pub all_laid :
     (count : Count) (far : Bool) (base : ℕ) (items : List Item) (r : Result Layout LinkError) → count.far ≡ far → HasCounted count items → LinksWithin far base items
     → IfOk r (λ _. count.bytes + 4 ≤ most_bytes count.far) → IfOk r (λ layout. (is : List Item) → HasCounted count is → IsLinkable count.far base is → IsLaid layout [] is)
@@ -177,6 +177,6 @@ pub all_laid :
 all_laid count far base items (Ok layout) same counted links h laid = laid items counted (subst (λ f. IsLinkable f base items) (sym same) (links (within count far items same counted h)))
 all_laid count far base items (Err e) same counted links h laid = tt
 
--- and no others come behind them
+-- no items come behind them
 pub none_behind : (layout : Layout) (items : List Item) → IsLaid layout [] items → IsLaid layout [] (items ++ [])
 none_behind layout items l = subst (λ is. IsLaid layout [] is) (sym (append-nil items)) l

@@ -1,4 +1,4 @@
--- Why the items of blocks can be linked: where there are words, each instruction has one, and the marks are those of the blocks.
+-- Why the items of blocks can be linked: given words, each instruction has one, and the marks are those of the blocks.
 use Rattle.std.proofs.Common.{◌≡◌, ℕ, ◌^◌, ◌<◌, suc, true, List, [], ◌∷◌, length, map, Some, refl, sym, ap, ◌∙◌, arith, false}
 use Rattle.std.specs.Prelude.{◌&&◌, get_or, slice_index, is_some, AllPairs}
 use Rattle.std.specs.List.{list_all}
@@ -20,7 +20,7 @@ decoded (w ∷ ws) (i ∷ is) small e =
     let later : map decode_of ws ≡ map Some is = cc in
     ap (λ o. is_some o && list_all is_encoded is) (encode_decode w i (small 0) here) ∙ decoded ws is (λ k. small (suc k)) later
 
--- the first addresses of blocks ascend, and the marks are theirs
+-- the first addresses of blocks ascend, and the marks stand at them
 pub ascending : (rows : List EntryRow) (blocks : List Block) → map (λ (r : EntryRow). r.input) rows ≡ map (λ b. b.start) blocks → AllPairs (λ (b c : Block). b.start < c.start) blocks → EntriesAscend rows
 ascending rows blocks same up i j d l m =
     let e : Block = record { start = d.input; body = []; end = Falls; reached = false } in

@@ -29,13 +29,13 @@ sum_stub : (far : Bool) (items : List Item) → sum_of_sizes far (items ++ stub)
 sum_stub far [] = refl
 sum_stub far (item ∷ items) = omega (arith, sum_stub far items)
 
--- with the stub an address leads to its mark, or to the stub
+-- with the stub, an address leads to its mark or to the stub
 entry_stub : (far : Bool) (base : ℕ) (items : List Item) (a : ℕ) → entry_of far base (items ++ stub) a ≡ leads_to (rows_from far base items) (base + sum_of_sizes far items) a
 entry_stub far base items a =
     ap (λ o. unwrap_or o (base + sum_of_sizes far (items ++ stub) - 4)) (mark_stub far base items a)
     ∙ ap (λ n. unwrap_or (entry_at (rows_from far base items) a) n) (omega (arith, sum_stub far items))
 
--- instructions with the same entries
+-- instructions for equal entries are equal
 same_entries : (far : Bool) (f g : ℕ → ℕ) (at : ℕ) (items : List Item) → ((a : ℕ) → f a ≡ g a) → instructions_from far f at items ≡ instructions_from far g at items
 same_entries far f g at [] e = refl
 same_entries far f g at (Mark m ∷ items) e = same_entries far f g at items e
@@ -45,14 +45,14 @@ same_entries far f g at (Go t ∷ items) e =
     ap (λ to. go_words far at to ++ instructions_from far f (at + go_size far) items) (e t)
     ∙ ap (λ is. go_words far at (g t) ++ is) (same_entries far f g (at + go_size far) items e)
 
--- what is placed with the stub behind it
+-- placed items with the stub behind them
 pub placed_stub : (far : Bool) (base : ℕ) (items : List Item) →
     placed far base (items ++ stub) ≡ instructions_from far (leads_to (rows_from far base items) (base + sum_of_sizes far items)) base items ++ ins Illegal 0 0 0 (pos 0) ∷ []
 placed_stub far base items =
     same_entries far (entry_of far base (items ++ stub)) (leads_to (rows_from far base items) (base + sum_of_sizes far items)) base (items ++ stub) (entry_stub far base items)
     ∙ instructions_from-append far (leads_to (rows_from far base items) (base + sum_of_sizes far items)) base items stub
 
--- where items stand further on, so do their entries
+-- if items move, their entries move too
 elsewhere : (far : Bool) (items : List Item) (a b : ℕ) → a ≡ b → rows_from far a items ≡ rows_from far b items
 elsewhere far items a b e = ap (λ n. rows_from far n items) e
 

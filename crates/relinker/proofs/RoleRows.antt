@@ -1,4 +1,4 @@
--- What parts are for, one part more.
+-- The roles of parts, with one more part.
 use Rattle.std.proofs.Common.{◌≡◌, ℕ, ◌+◌, ◌<◌, Bool, Option, None, List, [], ◌∷◌, ◌++◌, length, drop, get_or, refl, sym, ap, ◌∙◌, append_assoc}
 use Rattle.std.proofs.lemmas.List.{append-nil, drop_more}
 use Rattle.qed_model.specs.declared.item.Item.{Item}
@@ -12,7 +12,7 @@ use Rattle.qed_model.proofs.Lemmas.{joined_append}
 pub rows_none : (far : Bool) (of : Role) (old : List RoleRow) (items : List Item) → old ++ item_rows far of None items ≡ old ++ item_rows far of None items
 rows_none far of old items = refl
 
--- an item more
+-- one more item
 pub rows_more :
     (far : Bool) (of : Role) (before : Option ℕ) (old new all : List RoleRow) (items : List Item) (k : ℕ) (i : Item) → k < length items → get_or items k i ≡ i
     → old ++ item_rows far of before (drop k items) ≡ all → new ≡ old ++ ((record { role = role_in of before (compares i); bytes = size_of far i }) ∷ [])
@@ -23,7 +23,7 @@ rows_more far of before old new all items k i less item was e =
     let split : drop k items ≡ i ∷ drop (k + 1) items = drop_more items k i less ∙ ap (λ x. x ∷ drop (k + 1) items) item in
     ap (λ l. l ++ rest) e ∙ append_assoc old (row ∷ []) rest ∙ ap (λ is. old ++ item_rows far of before is) (sym split) ∙ was
 
--- ---- a part more
+-- ---- one more part
 pub roles_append : (far : Bool) (ps qs : List (Role × List Item)) → role_rows far (ps ++ qs) ≡ role_rows far ps ++ role_rows far qs
 roles_append far [] qs = refl
 roles_append far (p ∷ ps) qs = ap (λ l. item_rows far p.0 None p.1 ++ l) (roles_append far ps qs) ∙ sym (append_assoc (item_rows far p.0 None p.1) (role_rows far ps) (role_rows far qs))

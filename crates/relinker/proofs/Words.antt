@@ -4,7 +4,7 @@ use Rattle.std.specs.Prelude.{◌≡◌, true, pos}
 use Rattle.machine.specs.Table.{ins, encode_of, word_of, Illegal}
 use Rattle.relinker.specs.Link.{AreWords, is_encoded}
 
--- one word more
+-- one more word
 pub push_word : (words : List ℕ) (w : ℕ) → AreWords words → w < 2 ^ 32 → AreWords (words ++ w ∷ [])
 push_word [] w all h zero = h
 push_word [] w all h (suc k) = omega arith

@@ -1,4 +1,4 @@
--- What is known of items that are laid out, and why items are not.
+-- What holds of items that are laid out, and why items are not.
 use Rattle.std.specs.Prelude.{◌≡◌, ℕ, ◌+◌, ◌*◌, ◌^◌, ◌<◌, ◌≤◌, Bool, true, List, ◌++◌, map, Some, vec_len, vec_capacity}
 use Rattle.std.specs.List.{list_all}
 use Rattle.qed_model.specs.declared.item.Item.{Item}
@@ -13,8 +13,8 @@ use Rattle.relinker.specs.declared.layout.Linked.{Linked}
 use Rattle.relinker.specs.Link.{is_encoded, AreWords, most_bytes}
 use Rattle.relinker.specs.Counted.{capped}
 
--- these items have their words, and those are still to come: the entries are those of all, and there is room for all words and the
--- stub
+-- these items have their words, and the rest is still to come; the entries are those of all, and there is room for all
+-- words and the stub
 pub record IsLaid (layout : Layout) (done rest : List Item) : Type 0 where
   pub entries : layout.entries.items ≡ rows_from layout.far layout.base (done ++ rest)
   pub ascend : EntriesAscend layout.entries.items
@@ -27,7 +27,7 @@ pub record IsLaid (layout : Layout) (done rest : List Item) : Type 0 where
   pub len : 4 * vec_len layout.words ≡ sum_of_sizes layout.far done
   pub room : sum_of_sizes layout.far (done ++ rest) + 4 ≤ 4 * vec_capacity layout.words
 
--- the same of code that is near or far, and begins at an address
+-- as `IsLaid`, of near or far code that begins at an address
 abbrev pub IsLaidIn : Layout → Bool × ℕ → List Item → List Item → Type 0
 IsLaidIn layout form done rest = (layout.far ≡ form.0) × (layout.base ≡ form.1) × IsLaid layout done rest
 
@@ -37,19 +37,19 @@ pub record IsLinked (far : Bool) (base : ℕ) (items : List Item) (linked : Link
   pub words : AreWords linked.words.items
   pub entries : linked.entries.items ≡ rows_from far base items
 
--- the same items from the same base on have one code
+-- laid out from one base, given items have one code
 abbrev pub OneCode : Type 0
 OneCode =
     (far : Bool) (base : ℕ) (items : List Item) (a b : Linked) → IsLinked far base items a → IsLinked far base items b
     → (a.words.items ≡ b.words.items) × (a.entries.items ≡ b.entries.items)
 
--- the code of counted items has so many bytes with the stub, past the limit of its form; or it is within the limit, and there is no
--- memory
+-- the code of counted items, with the stub, has n bytes, past the limit of its form; or it is within the limit, and
+-- memory ran out
 abbrev pub HasCause : Count → LinkError → Type 0
 HasCause count (error.TooLarge n) = (n ≡ capped (count.bytes + 4)) × (most_bytes count.far < n)
 HasCause count error.Memory = count.bytes + 4 ≤ most_bytes count.far
 
--- the same of items, where memory may lack before all of them are counted
+-- why items are not linked; memory may run out before all of them are counted
 abbrev pub HasLinkCause : Bool → List Item → LinkError → Type 0
 HasLinkCause far items (error.TooLarge n) = (n ≡ capped (sum_of_sizes far items + 4)) × (most_bytes far < n)
 HasLinkCause far items error.Memory = Unit {0}

@@ -1,4 +1,4 @@
--- What is asked of items that are laid out, and what their words are.
+-- What linking requires of items, and what their words are.
 use Rattle.std.specs.Prelude.{◌≡◌, ℕ, ◌+◌, ◌^◌, ◌<◌, ◌≤◌, nat_lt, is_some, Bool, true, false, List, ◌++◌, slice_index}
 use Rattle.std.specs.List.{list_all}
 use Rattle.qed_model.specs.declared.item.Item.{Item}
@@ -28,11 +28,11 @@ abbrev pub most_bytes : Bool → ℕ
 most_bytes false = MAX_NEAR_CODE_BYTES
 most_bytes true = limit_of limit.CodeBytes
 
--- with the stub they are within the limit of the form
+-- the items and the stub are within the limit of the form
 abbrev pub IsWithinForm : Bool → List Item → Type 0
 IsWithinForm far items = sum_of_sizes far items + 4 ≤ most_bytes far
 
--- and where they are, they can be linked from `base` on
+-- items within the limit of the form can be linked from `base` on
 abbrev pub LinksWithin : Bool → ℕ → List Item → Type 0
 LinksWithin far base items = IsWithinForm far items → IsLinkable far base items
 
@@ -40,6 +40,6 @@ LinksWithin far base items = IsWithinForm far items → IsLinkable far base item
 abbrev pub is_low : EntryRow → Bool
 is_low r = nat_lt r.output (2 ^ 32)
 
--- an entry that stands so much further on
+-- an entry, moved by a number of bytes
 abbrev pub moved : ℕ → EntryRow → EntryRow
 moved base r = record { input = r.input; output = r.output + base }

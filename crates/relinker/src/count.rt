@@ -9,7 +9,7 @@ use passes::Emit;
 use qed_model::{EntryRow, Item, Role};
 use std::alloc::{AllocError, Global};
 
-/// The bytes that an item takes, where a jump to an entry is near or far.
+/// The bytes that an item takes in the near or the far form.
 pub(crate) fn size(far: bool, item: &Item) -> u64
     ensures value { result ≡ size_of far item.now }
     ensures bound { result ≤ 8 }
@@ -22,7 +22,7 @@ pub(crate) fn size(far: bool, item: &Item) -> u64
     }
 }
 
-/// The bytes that items take, 2^64 - 1 at most.
+/// The bytes that items take; at most 2^64 - 1.
 fn size_of_all(far: bool, items: &[Item]) -> u64
     ensures { result ≡ capped (sum_of_sizes far items.now) }
 {
@@ -48,7 +48,7 @@ fn marks(alloc: Global, far: bool, items: &[Item], base: u64) -> Result<Vec<Entr
     Ok(marks)
 }
 
-/// Items that were counted: the bytes that they take, 2^64 - 1 at most, and each mark with its place, from 0 on.
+/// Items that were counted: the bytes that they take, at most 2^64 - 1, and each mark with its place, from 0 on.
 #[derive(Debug, Drop)]
 pub struct Count {
     pub(crate) far: bool,
@@ -69,7 +69,7 @@ impl Count {
         }
     }
 
-    /// The count of items whose bytes and marks are known, with the places of these from 0 on.
+    /// The count of items with known bytes and marks; the places count from 0.
     pub fn of(far: bool, bytes: u64, marks: Vec<EntryRow>) -> Count
         ensures form { result.far ≡ far }
         ensures counted { (items : List Item) → bytes ≡ capped (sum_of_sizes far items) → (sum_of_sizes far items < 2 ^ 64 - 1 → marks.items ≡ rows_from far 0 items) → HasCounted result items }
@@ -77,7 +77,7 @@ impl Count {
         Count { far, bytes, marks }
     }
 
-    /// Counts more items. Where there is no memory the count is as before.
+    /// Counts more items. Without memory the count stays as it was.
     pub fn add(&mut self, items: &Emit) -> Result<(), AllocError>
         ensures form { self.new.far ≡ self.old.far }
         ensures more { OnOk result ((done : List Item) → HasCounted self.old done → HasCounted self.new (done ++ items.now)) }

@@ -8,11 +8,11 @@ use thiserror::Error;
 /// Why items are not laid out.
 #[derive(Clone, Copy, Debug, Error, PartialEq, Eq)]
 pub enum LinkError {
-    /// The code has more than 1,048,576 bytes in the near form, or more than 67,108,864 in the far form:
-    /// how many, with the stub.
+    /// The code has more than 1,048,576 bytes in the near form, or more than 67,108,864 in the far
+    /// form: its bytes, with the stub.
     #[error("{0} bytes")]
     TooLarge(u64),
-    /// There is no memory.
+    /// Memory ran out.
     #[error("out of memory")]
     Memory,
 }

@@ -28,7 +28,7 @@ fn limit(far: bool) -> u64
     }
 }
 
-/// The entries, so much further on.
+/// The entries, moved by `base` bytes.
 fn moved_rows(alloc: Global, rows: &[EntryRow], base: u64) -> Result<Vec<EntryRow>, AllocError>
     requires low { list_all is_low rows.now ≡ true }
     requires base { base ≤ 2 ^ 63 }
@@ -51,8 +51,8 @@ pub struct Linked {
     pub entries: Vec<EntryRow>,
 }
 
-/// Code that is laid out: where it begins, where its stub and where the next item stands, all entries, and the words so
-/// far.
+/// Code that is laid out: the addresses where it begins, of its stub and of the next item; all
+/// entries, and the words so far.
 #[derive(Debug, Drop)]
 pub struct Layout {
     pub(crate) far: bool,
@@ -63,10 +63,10 @@ pub struct Layout {
     pub(crate) words: Vec<u32>,
 }
 
-/// Takes the memory for all words and entries of counted items, which are to stand from `base` on, and for the stub behind
-/// them.
+/// Takes the memory for all words and entries of counted items, which will stand from `base` on,
+/// and for the stub behind them.
 ///
-/// Errors: `TooLarge` exactly where the code has more bytes than its form may have; want of memory.
+/// Errors: `TooLarge` exactly if the code has more bytes than its form allows; want of memory.
 #[tactic(auto, using(crate::proofs::Laying::marks_low, crate::proofs::Laying::laid_first))]
 pub fn lay(alloc: Global, count: Count, base: u64) -> Result<Layout, LinkError>
     requires counted { (items : List Item) × HasCounted count items }
@@ -94,21 +94,21 @@ pub fn lay(alloc: Global, count: Count, base: u64) -> Result<Layout, LinkError>
 }
 
 impl Layout {
-    /// Where all entries are.
+    /// The addresses of all entries.
     pub fn entries(&self) -> &[EntryRow]
         ensures { result.now ≡ self.now.entries.items }
     {
         &self.entries
     }
 
-    /// Where the stub is.
+    /// The address of the stub.
     pub fn last(&self) -> u64
         ensures { result ≡ self.now.last }
     {
         self.last
     }
 
-    /// Appends the words of items, which are the next that were counted. It takes no memory.
+    /// Appends the words of items, the next of those counted. It takes no memory.
     pub fn add(&mut self, items: &Emit)
         requires { ComeNext (IsLaidIn self.old) items.now }
         ensures { Takes (IsLaidIn self.old) (IsLaidIn self.new) items.now }
@@ -128,7 +128,7 @@ impl Layout {
         self.at = put_items(&mut self.words, &jumps, items, self.at);
     }
 
-    /// Appends the stub, behind all items that were counted. It takes no memory.
+    /// Appends the stub, behind all counted items. It takes no memory.
     pub fn finish(mut self) -> Linked
         requires { (done : List Item) × IsLaid self done [] }
         ensures { (done : List Item) → IsLaid self done [] → IsLinked self.far self.base done result }
@@ -153,7 +153,7 @@ impl ItemSink for Layout {
     }
 }
 
-/// The memory for the code of the items, which are counted.
+/// Counts the items, and takes the memory for their code.
 fn laid(alloc: Global, items: &Emit, base: u64, far: bool) -> Result<Layout, LinkError>
     requires base { base + CODE_ROOM ≤ 2 ^ 63 }
     requires linkable { LinksWithin far base items.now }
@@ -168,9 +168,9 @@ fn laid(alloc: Global, items: &Emit, base: u64, far: bool) -> Result<Layout, Lin
     lay(alloc, count, base)
 }
 
-/// The code of the items, which stand from `base` on, with the stub behind them.
+/// The code of the items, from `base` on, with the stub behind them.
 ///
-/// Errors: `TooLarge` exactly where the code has more bytes than its form may have; want of memory.
+/// Errors: `TooLarge` exactly if the code has more bytes than its form allows; want of memory.
 pub fn link(alloc: Global, items: &Emit, base: u64, far: bool) -> Result<Linked, LinkError>
     requires base { base + CODE_ROOM ≤ 2 ^ 63 }
     requires linkable { LinksWithin far base items.now }

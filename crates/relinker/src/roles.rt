@@ -1,4 +1,4 @@
-//! What the items of new code are for.
+//! The roles of the items of new code.
 ghost use Rattle.std.specs.Prelude.{◌≡◌, ◌∷◌, ◌++◌, [], None, List, IfOk, OnOk};
 ghost use Rattle.qed_model.specs.declared.item.Item.{Item};
 ghost use Rattle.qed_model.specs.declared.role.Role.{Role};
@@ -27,7 +27,7 @@ fn compares(item: &Item) -> Option<Reg>
     }
 }
 
-/// The role of a comparison of a register with its pair, in a part of a role.
+/// The role of a comparison of a register with its pair, within a part of a role.
 fn comparison_role(of: &Role, r: Reg) -> Role
     ensures { result ≡ comparison_role_of of.now r }
 {
@@ -41,7 +41,7 @@ fn comparison_role(of: &Role, r: Reg) -> Role
     }
 }
 
-/// The role of an item in a part, by the registers that the item before and itself compare.
+/// The role of an item in a part, by the registers that this item and the one before compare.
 fn role_in(of: &Role, before: Option<Reg>, here: Option<Reg>) -> Role
     ensures { result ≡ role_in_of of.now before here }
 {
@@ -71,7 +71,7 @@ fn push_part(
     Ok(())
 }
 
-/// What items are for: rows of bytes with their role, in the order of the items.
+/// The roles of items: rows of bytes with their role, in the order of the items.
 #[derive(Debug, Drop)]
 pub struct Roles {
     pub(crate) far: bool,

@@ -1,4 +1,4 @@
-//! Entries are found by their input addresses, which ascend: at the place where an address is if all have entries, else by halves.
+//! Finds entries by their input addresses, which ascend: by index if every word has one, else by bisection.
 ghost use Rattle.std.specs.Prelude.{◌≡◌, ◌<◌, ◌≤◌, length, drop, slice_index_or, Some, IfSome};
 ghost use Rattle.qed_model.specs.declared.plan.EntryRow.{EntryRow};
 ghost use Rattle.qed_model.specs.Weave.Placed.{entry_at, leads_to, EntriesAscend};
@@ -25,7 +25,7 @@ fn below(rows: &[EntryRow], address: u64) -> usize
     low
 }
 
-/// The entry of an input address, where each word from the first on up to it has one, as all have where any may be jumped to.
+/// The entry of an input address, if each word from the first up to it has one, as when every word may be a target.
 #[tactic(auto, using(crate::proofs::Rows::found_at))]
 fn guessed(rows: &[EntryRow], address: u64) -> Option<u64>
     requires { EntriesAscend rows.now }
@@ -63,7 +63,7 @@ pub fn place_of(rows: &[EntryRow], address: u64) -> Option<u64>
     Some(rows[at].output)
 }
 
-/// The entry of an input address, else the last word.
+/// The entry of an input address, or else the last word.
 pub(crate) fn entry(rows: &[EntryRow], last: u64, address: u64) -> u64
     requires { EntriesAscend rows.now }
     ensures { result ≡ leads_to rows.now last address }

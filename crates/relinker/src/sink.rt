@@ -6,16 +6,16 @@ use passes::Emit;
 use qed_model::Role;
 use std::alloc::AllocError;
 
-/// Takes the items of new code, one part after the other.
+/// Takes the items of new code, one part after another.
 pub trait ItemSink {
     ghost use Rattle.std.specs.Prelude.{ℕ, Bool, List};
     ghost use Rattle.qed_model.specs.declared.item.Item.{Item};
     ghost use Rattle.qed_model.specs.declared.role.Role.{Role};
 
-    // Of code that is near or far and begins at an address these parts were taken, and those are still to come.
+    // These parts of near or far code from an address on were taken, and those are still to come.
     ghost took: { Self → Bool × ℕ → List (Role × List Item) → List (Role × List Item) → Type 0 };
 
-    /// Takes the next items, which are for something.
+    /// Takes the next items, with their role.
     ///
     /// Errors: want of memory.
     fn take(&mut self, role: Role, items: &Emit) -> Result<(), AllocError>

@@ -40,7 +40,7 @@ fn instruction(kind: Kind, rd: Reg, rs1: Reg, imm: i64) -> Ins
     }
 }
 
-/// The two instructions that set a register to a constant so far from where they stand.
+/// The two instructions that set a register to a constant at a distance from where they stand.
 #[tactic(auto, using(crate::proofs::Reach::near_upper))]
 fn constant(r: Reg, distance: i64) -> (Ins, Ins)
     requires { is_encoded (ins Kind.Auipc r 0 0 (upper_of distance)) ≡ true }
@@ -54,7 +54,7 @@ fn constant(r: Reg, distance: i64) -> (Ins, Ins)
     )
 }
 
-/// The far jump, by x30.
+/// The far jump, by way of x30.
 #[tactic(auto, using(crate::proofs::Reach::near_upper))]
 fn far_jump(distance: i64) -> (Ins, Ins)
     requires { is_encoded (ins Kind.Auipc TEMPORARY 0 0 (upper_of distance)) ≡ true }
@@ -114,17 +114,17 @@ fn put_two(words: &mut Vec<u32>, pair: (Ins, Ins))
     put(words, &second);
 }
 
-/// Where jumps to entries lead, and in which form.
+/// The targets of jumps to entries, and their form.
 #[derive(Clone, Copy)]
 pub(crate) struct Jumps<'a> {
     pub(crate) rows: &'a [EntryRow],
-    /// Where those lead that have no row.
+    /// The target of jumps to addresses without a row.
     pub(crate) last: u64,
     pub(crate) far: bool,
     ghost ascend: { EntriesAscend rows.now },
 }
 
-/// Appends the words of an item that stands at an address, and tells how many bytes they take. There is room for them.
+/// Appends the words of an item at an address, and returns how many bytes they take. There is room for them.
 fn put_item(words: &mut Vec<u32>, jumps: &Jumps<'_>, item: &Item, at: u64) -> u64
     requires encoded { list_all is_encoded (instructions_from jumps.now.far (leads_to jumps.now.rows.now jumps.now.last) at (item.now ∷ [])) ≡ true }
     requires room { 4 * vec_len words.old + size_of jumps.now.far item.now ≤ 4 * vec_capacity words.old }
@@ -162,8 +162,8 @@ fn put_item(words: &mut Vec<u32>, jumps: &Jumps<'_>, item: &Item, at: u64) -> u6
     }
 }
 
-/// Appends the words of items that stand from `base` on, and tells where they end. There is room for them. Most items are plain:
-/// their words are made in the loop, with no call.
+/// Appends the words of items from `base` on, and returns where they end. There is room for them.
+/// Most items are plain: the loop makes their words without a call.
 pub(crate) fn put_items(words: &mut Vec<u32>, jumps: &Jumps<'_>, items: &[Item], base: u64) -> u64
     requires low { base + sum_of_sizes jumps.now.far items.now < 2 ^ 63 }
     requires encoded { list_all is_encoded (instructions_from jumps.now.far (leads_to jumps.now.rows.now jumps.now.last) base items.now) ≡ true }

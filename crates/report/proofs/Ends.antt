@@ -6,7 +6,7 @@ use Rattle.std.specs.Fmt.{digits, padded_integral}
 use Rattle.texts.specs.Printed.{hex_text}
 use Rattle.report.specs.Admission.{outside_line}
 
--- it has 17 digits
+-- 2^64 has 17 digits
 whole : codes "0x10000000000000000" ≡ hex_text 18446744073709551616
 unfolding digits padded_integral
 whole = simp zero-sub refl

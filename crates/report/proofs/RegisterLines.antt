@@ -12,7 +12,7 @@ next_line : (s : State) (n : ℕ) → register_lines s (suc n) ≡ register_line
 unfolding register_lines
 next_line s n = refl
 
--- one more
+-- one more line
 pub more_lines : (s : State) (n : ℕ) → 1 ≤ n → register_lines s (n - 1) ++ register_line s n ≡ register_lines s (n + 1 - 1)
 more_lines s n h =
     let e : n ≡ suc (n - 1) = omega (arith, h) in

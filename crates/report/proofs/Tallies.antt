@@ -31,7 +31,7 @@ tally_more ss s right = λ i. record {
   longest = longest_more ss s i;
 }
 
--- one strike more
+-- one more strike
 pub next_tally :
     (ss : List Struck) (right : Option ℕ) (k : ℕ) (s : Struck) → k < length ss → s ≡ get_or ss k s → tally_of (take (k + 1) ss) right ≡ with_verdict (tally_of (take k ss) right) s.verdict
 next_tally ss right k s less is =

@@ -1,4 +1,4 @@
--- What is printed where a test is not admitted. Each line ends with a newline.
+-- What is printed if a test is not admitted. Each line ends with a newline.
 use Rattle.std.specs.Prelude.{ℕ, List, ◌++◌, codes}
 use Rattle.tests.specs.declared.admit.AdmitError.{AdmitError}
 use Rattle.tests.specs.declared.admit.AdmitError.TheVariants as error
@@ -18,7 +18,7 @@ no_word_line a = addressed (codes "refused N1: address ") a
 abbrev pub outside_line : ℕ → ℕ → List ℕ
 outside_line high end = codes "refused A11: image end " ++ (hex_text high ++ (codes ", half end " ++ (hex_text end ++ codes "\n")))
 
--- nothing is printed for want of memory
+-- want of memory prints nothing
 abbrev pub admit_line : AdmitError → List ℕ
 admit_line error.Compressed = codes "refused A1: compressed\n"
 admit_line error.Dynamic = codes "refused A2: dynamic\n"

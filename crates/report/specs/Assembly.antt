@@ -15,11 +15,11 @@ fault_number UndefinedLabel = 4
 fault_number RedefinedLabel = 5
 fault_number SectionFull = 6
 
--- the first fault on the first line that is at fault
+-- the first fault on the first faulty line
 abbrev pub fault_line : Fault → ℕ → List ℕ
 fault_line fault n = codes "refused S" ++ (decimal (fault_number fault) ++ (codes ": line " ++ (decimal n ++ codes "\n")))
 
--- nothing is printed for want of memory
+-- want of memory prints nothing
 abbrev pub asm_error_line : AsmError → List ℕ
 asm_error_line (error.Line fault n) = fault_line fault n
 asm_error_line error.NoCode = codes "refused S7: no instruction\n"

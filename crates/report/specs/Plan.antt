@@ -11,12 +11,12 @@ use Rattle.qed_model.specs.declared.plan.Plan.{Plan}
 abbrev pub count : ℕ → Data
 count n = number (unsigned n)
 
--- null where there is no data word
+-- null without data words
 abbrev pub bound_data : Option ℕ → Data
 bound_data None = null
 bound_data (Some bound) = count bound
 
--- in steps
+-- the bounds, in steps
 abbrev pub bounds_data : Bounds → Data
 bounds_data bounds =
     object (member (codes "piece") (count bounds.piece) (member (codes "register") (count bounds.register) (member (codes "word") (bound_data bounds.word) no_members)))
@@ -34,7 +34,7 @@ abbrev pub plan_numbers : Plan → Members
 plan_numbers plan =
     member (codes "base") (count plan.base) (member (codes "code") (count plan.code_bytes) (member (codes "half") (count plan.distance) (member (codes "words") (count plan.words) no_members)))
 
--- the same, with its bounds, entries and pieces
+-- a plan: its numbers, bounds, entries and pieces
 abbrev pub plan_data : Plan → Data
 plan_data plan =
     object (member (codes "base") (count plan.base)

@@ -1,4 +1,4 @@
--- What the last line about strikes tells of their verdicts.
+-- What the last line about strikes says of their verdicts.
 use Rattle.std.specs.Prelude.{ℕ, ◌+◌, max, cond, List, ◌++◌, codes, Option}
 use Rattle.std.specs.Fmt.{decimal}
 use Rattle.qed_model.specs.declared.verdict.Verdict.{Verdict}
@@ -6,7 +6,7 @@ use Rattle.qed_model.specs.declared.verdict.Struck.{Struck}
 use Rattle.qed_words.specs.Text.Campaign.{how_many, is_fired, is_ended, is_same, is_closed, is_not_reached, longest, fired_steps, ends_text}
 use Rattle.report.specs.declared.tally.Tally.{Tally}
 
--- the verdicts of strikes, of which so many ended right
+-- the verdicts of strikes, with how many ended right
 abbrev pub tally_of : List Struck → Option ℕ → Tally
 tally_of ss right = record {
   fired = how_many is_fired ss;
@@ -17,7 +17,7 @@ tally_of ss right = record {
   longest = longest ss;
 }
 
--- with one verdict more
+-- a tally with one more verdict
 abbrev pub with_verdict : Tally → Verdict → Tally
 with_verdict t v = record {
   fired = t.fired + cond (is_fired v) 1 0;

@@ -1,4 +1,4 @@
--- What `help` and `version` tell: texts that stand in the code.
+-- The texts of `help` and `version`, which the code holds.
 use Rattle.std.specs.Prelude.{ℕ, List}
 use Rattle.qed_words.specs.declared.orders.Command.TheVariants as command
 use Rattle.qed_words.specs.declared.orders.Topic.{Topic}

@@ -15,7 +15,7 @@ shared_line i j = codes "refused H1: files " ++ (decimal i ++ (codes " and " ++ 
 abbrev pub hart_line : ℕ → List ℕ
 hart_line i = codes "hart " ++ (decimal i ++ codes "\n")
 
--- its number, and the lines of a run that stands as the hart stands in the memory, after its steps
+-- the number of a hart, and the lines of a run that ends as the hart stands in the memory, after its steps
 abbrev pub hart_lines : ℕ → Option Hart → Memory → Option ℕ → List ℕ
 hart_lines i (Some h) m (Some steps) = hart_line i ++ run_lines (record { state = state_of h m; steps = steps })
 hart_lines i _ m _ = []

@@ -1,4 +1,4 @@
-//! What is printed where a test is not admitted.
+//! What is printed if a test is not admitted.
 ghost use Rattle.std.specs.Prelude.{◌≡◌, ◌≢◌, ◌^◌, ◌≤◌, IfOk, OnOk, string_bytes};
 ghost use Rattle.tests.specs.Admission.Ends.{HasEnds};
 ghost use Rattle.report.specs.Admission.{admit_line, no_word_line, outside_line};
@@ -24,15 +24,15 @@ fn outside_line(alloc: Global, high: u128, end: u64) -> Result<String, AllocErro
     }
 }
 
-/// The line about an address where no word of new code stands: N1.
+/// The line about an address at which no word of new code stands: N1.
 pub fn no_word_text(alloc: Global, address: u64) -> Result<Bytes, AllocError>
     ensures { IfOk result (λ text. text ≡ no_word_line address) }
 {
     Ok(Bytes::of(addressed(alloc, "refused N1: address ", address)?.into_bytes()))
 }
 
-/// The line about a test that is not admitted: A1 to A11, L2, L3 or L7. An end of 2^64 has 17 digits. Want of memory has
-/// none, and is answered as such.
+/// The line about a test that is not admitted: A1 to A11, L2, L3 or L7. An end of 2^64 has 17
+/// digits. For want of memory it fails.
 pub fn admit_text(alloc: Global, error: &AdmitError) -> Result<Bytes, AllocError>
     requires { HasEnds error.now }
     ensures text { IfOk result (λ text. text ≡ admit_line error.now) }

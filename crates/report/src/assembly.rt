@@ -13,8 +13,8 @@ fn fault_number(fault: Fault) -> u64
     fault as u64 + 1
 }
 
-/// The line about a text that is not assembled: the rule of the first fault, and the number of its line, from 1. Want of
-/// memory has none.
+/// The line about a text that is not assembled: the rule of the first fault, and the number of its
+/// line, from 1. For want of memory it fails.
 pub fn asm_error_text(alloc: Global, error: AsmError) -> Result<Bytes, AllocError>
     ensures text { IfOk result (λ text. text ≡ asm_error_line error) }
     ensures memory { OnOk result (error ≢ AsmError.Memory) }

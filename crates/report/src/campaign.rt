@@ -25,7 +25,7 @@ impl fmt::Display for PlaceText {
     }
 }
 
-/// What came of a strike, with the steps from its last change.
+/// The verdict of a strike, with the steps from its last change.
 #[derive(Clone, Copy)]
 struct VerdictText(Verdict);
 
@@ -43,7 +43,7 @@ impl fmt::Display for VerdictText {
     }
 }
 
-/// Whether a test ended right, as ` right` or ` wrong`, where that is told.
+/// Whether a test ended right, as ` right` or ` wrong`, if that is asked for.
 #[derive(Clone, Copy)]
 struct EndText(Verdict, Option<bool>);
 
@@ -79,7 +79,7 @@ fn changes_text(alloc: Global, changes: &[Change]) -> Result<Vec<u8>, AllocError
     Ok(text)
 }
 
-/// Whether a strike ended right, where that is told.
+/// Whether a strike ended right, if that is asked for.
 fn right_at(rights: Option<&[bool]>, number: usize) -> Option<bool>
     ensures { result ≡ right_at_of (option_copied rights.entry) number }
 {
@@ -105,7 +105,7 @@ fn strike_line(
     Ok(line)
 }
 
-/// The lines about strikes, which are numbered from 0.
+/// The lines about strikes, numbered from 0.
 fn strike_lines(
     alloc: Global,
     strikes: &[Struck],
@@ -121,8 +121,8 @@ fn strike_lines(
     Ok(text)
 }
 
-/// What is printed about strikes of an output: a line for each, and then their verdicts with the bounds of its plan, or
-/// the pc at which the input's own run trapped. `rights` tells of each strike, where that is told, whether the test ended right.
+/// The text about strikes of an output: a line for each, then their verdicts and the plan's bounds, or the pc
+/// at which the input trapped. `rights` says for each, if asked for, whether the test ended right.
 pub fn campaign_text(
     alloc: Global,
     struck: &[Struck],

@@ -10,7 +10,7 @@ use std::alloc::{AllocError, Global};
 /// How many bytes stand in a line.
 const WIDTH: u64 = 16;
 
-/// The byte at an address, in two lower-case digits, or `--` where it is not mapped.
+/// The byte at an address, in two lower-case digits, or `--` if it is not mapped.
 fn byte_text(alloc: Global, machine: &Machine, address: u64) -> Result<String, AllocError>
     ensures { IfOk result (λ text. string_bytes text ≡ byte_text (option_map (λ c. c.byte) (get machine.now.state.memory address))) }
 {
@@ -57,7 +57,7 @@ fn dump_line(
     Ok(line)
 }
 
-/// What a dump of so many bytes from an address on shows: 16 bytes to a line, each line with its first address.
+/// A dump of `length` bytes from an address on: 16 bytes to a line, each line with its first address.
 #[tactic(auto, using(crate::proofs::DumpLines::no_line, crate::proofs::DumpLines::next_line))]
 pub fn dump_text(
     alloc: Global,

@@ -1,4 +1,4 @@
-//! What is printed where a file is refused, or could not be read.
+//! What is printed if a file is refused, or could not be read.
 ghost use Rattle.std.specs.Prelude.{◌≡◌, ◌≢◌, Some, IfOk, OnOk, string_bytes};
 ghost use Rattle.qed_words.specs.Text.Errors.{part_line, error_line};
 ghost use Rattle.qed_words.specs.Text.Plan.{read_fault_line};
@@ -22,7 +22,7 @@ fn part_text(alloc: Global, part: Part) -> Result<String, AllocError>
     }
 }
 
-/// The line about a file that is not read. Want of memory has none, and is answered as such.
+/// The line about a file that is not read. For want of memory it fails.
 pub fn error_text(alloc: Global, error: ElfError) -> Result<Bytes, AllocError>
     ensures text { IfOk result (λ text. text ≡ error_line error) }
     ensures memory { OnOk result (error ≢ ElfError.Memory) }

@@ -31,9 +31,9 @@ impl fmt::Display for Ran {
 #[derive(Clone, Copy)]
 pub struct Drawn {
     pub seed: u64,
-    /// In body instructions.
+    /// The size in body instructions.
     pub size: u64,
-    /// The words of code.
+    /// The number of words of code.
     pub words: u64,
 }
 

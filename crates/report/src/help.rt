@@ -1,4 +1,4 @@
-//! What `help` and `version` tell.
+//! The texts of `help` and `version`.
 ghost use Rattle.std.specs.Prelude.{◌≡◌, IfOk};
 ghost use Rattle.report.specs.Told.{told_text as told_text_of};
 

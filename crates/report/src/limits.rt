@@ -1,4 +1,4 @@
-//! What is printed where a limit is exceeded.
+//! What is printed if a limit is exceeded.
 ghost use Rattle.std.specs.Prelude.{◌≡◌, IfOk, string_bytes};
 ghost use Rattle.qed_words.specs.Text.Errors.{limit_line as limit_line_of};
 
@@ -6,7 +6,7 @@ use elf_types::Bytes;
 use qed_model::Limit;
 use std::alloc::{AllocError, Global};
 
-/// The line about a limit that a number is above.
+/// The line about a limit that a number exceeds.
 pub fn limit_line(alloc: Global, limit: Limit, count: u128) -> Result<String, AllocError>
     ensures { IfOk result (λ text. string_bytes text ≡ limit_line_of limit count) }
 {
@@ -19,8 +19,8 @@ pub fn limit_line(alloc: Global, limit: Limit, count: u128) -> Result<String, Al
     }
 }
 
-/// The line about a limit that a number is above. The limits on a file that is loaded print no
-/// number, so any may be given.
+/// The line about a limit that a number exceeds. Limits on a loaded file print no number, so any
+/// may be passed.
 pub fn limit_text(alloc: Global, limit: Limit, count: u128) -> Result<Bytes, AllocError>
     ensures { IfOk result (λ text. text ≡ limit_line_of limit count) }
 {

@@ -1,4 +1,4 @@
-//! What is printed of a plan: one JSON object on one line.
+//! The printed plan: one JSON object on one line.
 ghost use Rattle.std.specs.Prelude.{◌≡◌, map, IfOk, string_bytes};
 ghost use Rattle.serde_json.specs.Data.{array};
 ghost use Rattle.serde_json.specs.View.{view, items_of, members_view};
@@ -10,7 +10,7 @@ use qed_model::{Bounds, EntryRow, PieceRow, Plan};
 use serde_json::{Map, Value, json, put};
 use std::alloc::{AllocError, Global};
 
-/// The bounds, without that of a word where there is no data word.
+/// The bounds; that of a word only if there are data words.
 fn bounds_value(alloc: Global, bounds: &Bounds) -> Result<Value, AllocError>
     ensures { IfOk result (λ v. view v ≡ bounds_data bounds.now) }
 {
@@ -65,7 +65,7 @@ fn plan_value(alloc: Global, plan: &Plan) -> Result<Value, AllocError>
     Ok(Value::Object(map))
 }
 
-/// The text of that object.
+/// The text of a plan's object.
 fn plan_json(alloc: Global, plan: &Plan) -> Result<String, AllocError>
     ensures { IfOk result (λ text. string_bytes text ≡ compact_text (plan_data plan.now)) }
 {

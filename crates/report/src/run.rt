@@ -31,7 +31,7 @@ impl fmt::Display for CauseText {
     }
 }
 
-/// How a run stands.
+/// The end of a run, in words.
 #[derive(Clone, Copy)]
 struct OutcomeText(Outcome);
 
@@ -90,7 +90,7 @@ fn lines_with(alloc: Global, hart: &Hart, jumps: &[u8]) -> Result<Vec<u8>, Alloc
     Ok(text)
 }
 
-/// How a run stands, after how many steps, at which pc, and then the registers x1 to x31, a line each.
+/// How a run ended, after how many steps, at which pc, and then the registers x1 to x31, a line each.
 pub fn run_lines(alloc: Global, hart: &Hart) -> Result<Vec<u8>, AllocError>
     ensures { IfOk result (λ text. (m : Memory) → text.items ≡ run_lines (with_memory hart.now m)) }
 {
@@ -98,8 +98,8 @@ pub fn run_lines(alloc: Global, hart: &Hart) -> Result<Vec<u8>, AllocError>
     Ok(text)
 }
 
-/// The line that tells of the first jump by register that led to an address that is not reached, by its own address and
-/// that one, or that there was none.
+/// The line about the first indirect jump to an address that is not reached, with the address of
+/// the jump and its target, or that there was none.
 pub fn jumps_text(alloc: Global, astray: Option<(u64, u64)>) -> Result<String, AllocError>
     ensures { IfOk result (λ text. string_bytes text ≡ jumps_line astray) }
 {
@@ -111,9 +111,9 @@ pub fn jumps_text(alloc: Global, astray: Option<(u64, u64)>) -> Result<String, A
     }
 }
 
-/// What is printed about a run: how it stands, after how many steps, at which pc, then a text about its jumps, which may be
-/// empty, then the registers x1 to x31, a line each, and then the bytes of a dump, by its address and its length in bytes,
-/// 16 to a line.
+/// The text about a run: how it ended, after how many steps, at which pc. Then a text about its
+/// jumps, which may be empty, and the registers x1 to x31, a line each. Then the bytes of a dump,
+/// by its address and length in bytes, 16 to a line.
 pub fn run_text(
     alloc: Global,
     machine: &Machine,

@@ -1,4 +1,4 @@
-//! What the last line about strikes tells of them.
+//! What the last line about strikes says of them.
 ghost use Rattle.std.specs.Prelude.{◌≡◌, ◌+◌, ◌-◌, ◌^◌, ◌<◌, Some, IfOk, length, string_bytes};
 ghost use Rattle.std.specs.Option.{option_copied, option_map};
 ghost use Rattle.qed_words.specs.Text.Campaign.{ends_text, how_many_right as how_many_right_of, summary_line};
@@ -22,14 +22,14 @@ fn how_many_right(rights: &[bool]) -> u64
     count
 }
 
-/// The same, where that is told.
+/// How many of some ends were right, if that is asked for.
 fn right_count(rights: Option<&[bool]>) -> Option<u64>
     ensures { result ≡ option_map how_many_right_of (option_copied rights.entry) }
 {
     Some(how_many_right(rights?))
 }
 
-/// How many strikes ended, and how many of them right, where that is told.
+/// How many strikes ended, and if asked for how many of them right.
 #[derive(Clone, Copy)]
 struct Ends {
     count: u64,
@@ -59,12 +59,12 @@ struct Tally {
     same: u64,
     closed: u64,
     not_reached: u64,
-    /// The greatest number of steps until a check fired; 0 where none did.
+    /// The greatest number of steps until a check fired; 0 if none did.
     longest: u64,
 }
 
 impl Tally {
-    /// Counts one verdict more.
+    /// Counts one more verdict.
     fn add(&mut self, verdict: Verdict)
         requires { counted self.old < 2 ^ 64 - 1 }
         ensures { self.new ≡ with_verdict self.old verdict }
@@ -81,7 +81,7 @@ impl Tally {
         }
     }
 
-    /// The verdicts of strikes, of which so many ended right.
+    /// The verdicts of strikes; `right` of them ended right.
     fn of(strikes: &[Struck], right: Option<u64>) -> Tally
         ensures { result ≡ tally_of strikes.now right }
     {

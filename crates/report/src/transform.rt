@@ -23,8 +23,8 @@ impl fmt::Display for Sizes {
     }
 }
 
-/// The bounds of an output in steps, printed as `register bound R, word bound B`. The word bound is None where there is
-/// no data word.
+/// The bounds of an output in steps, printed as `register bound R, word bound B`. Without data
+/// words the word bound is None.
 #[derive(Clone, Copy)]
 pub struct BoundsText(pub Bounds);
 
@@ -40,7 +40,7 @@ impl fmt::Display for BoundsText {
     }
 }
 
-/// The line about an output, by what is told of it.
+/// The line about an output, by its plan.
 pub fn transform_text(alloc: Global, plan: &Plan) -> Result<Bytes, AllocError>
     ensures { IfOk result (λ text. text ≡ plan_line plan.now) }
 {

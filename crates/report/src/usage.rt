@@ -1,4 +1,4 @@
-//! What is printed where the words of the command line ask for nothing.
+//! What is printed if the words of the command line ask for nothing.
 ghost use Rattle.std.specs.Prelude.{◌≡◌, IfOk};
 ghost use Rattle.qed_words.specs.Text.Usage.{reason_line};
 

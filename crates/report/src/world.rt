@@ -7,7 +7,7 @@ use elf_types::Bytes;
 use harts::World;
 use std::alloc::{AllocError, Global};
 
-/// The line where two files share a byte, by their numbers, from 0.
+/// The line for two files that share a byte, by their numbers, from 0.
 pub fn shared_text(alloc: Global, first: u64, second: u64) -> Result<Bytes, AllocError>
     ensures { IfOk result (λ text. text ≡ shared_line first second) }
 {

@@ -53,18 +53,18 @@ module _ (seed n x y z : ℕ) (some : 1 ≤ n) (few : n ≤ 1875) where
       (or_from _ _ (shape.segments_pass n c t data_bytes s x y z sized) (shape.unmixed n c t data_bytes s x y z sized))))))
       entry (omega (arith, length-code seed n, few)) (omega (arith, base, high, distance)) (omega (arith, distance)) (omega (arith, base, distance))
 
--- the file that is read of n functions
+-- the file of n functions, when read, is admitted
 with_functions : (seed n : ℕ) → 1 ≤ n → n ≤ 1875 → IsAdmitted (file_read (file_with seed n)) default_options
 unfolding file_with
 with_functions seed n some few =
     file_admitted seed n (24 * (1 + length (symbols n))) (length (string_table (symbol_names (symbols n)))) (length (string_table (section_names (file_with seed n).sections))) some few
 
--- how many functions it has
+-- a generated test has 1 to 1,875 functions
 pub few_functions : (size : ℕ) → 1 ≤ size → size ≤ 60000 → (1 ≤ function_count size) × (function_count size ≤ 1875)
 unfolding function_count
 few_functions size some most = (omega (arith, some), omega (arith, most))
 
--- whatever its bytes are read as is admitted
+-- any file that its bytes are read as is admitted
 pub admitted : (seed size : ℕ) (bytes : List ℕ) → 1 ≤ size → size ≤ 60000 → IsReadAs bytes (file_read (generated seed size)) → (f : ElfFile) → IsReadAs bytes f → IsAdmitted f default_options
 unfolding generated
 admitted seed size bytes some most read f r =

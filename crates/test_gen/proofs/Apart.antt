@@ -33,7 +33,7 @@ unfolding data_bytes
 small_data k = small_numbers 256 (λ i. i) k
 
 -- ---- segments
--- all of a segment that its bytes are wanted for
+-- a segment in bounds: its bytes fit it, it fits memory, and each is a byte
 record IsLoad (l : LoadSegment) : Type 0 where
   sized : length l.bytes ≤ l.size
   fit : l.address + l.size ≤ 2 ^ 64
@@ -60,7 +60,7 @@ module _ (n : ℕ) (code_part table words : List ℕ) (symbols : List Symbol) (x
   first_third : 0x10000 + length code_part ≤ 0x90000
   first_third = omega (arith, first_second)
 
-  -- by the segments that they are loaded from
+  -- the segments are apart, by those that they are loaded from
   pairs : Pairs ApartLoads f.segments
   pairs = (((λ k l a b. inl first_second), ((λ k l a b. inl first_third), tt)), (((λ k l a b. inl second_third), tt), (tt, tt)))
 

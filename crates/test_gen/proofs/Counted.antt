@@ -1,4 +1,4 @@
--- Runs whose steps are counted: a run that ends after n steps has made n steps, however long it may go on.
+-- Runs with counted steps: a run that ends after n steps has made n steps, for any greater limit.
 use Rattle.std.proofs.Common.{◌≡◌, ℕ, zero, suc, ◌+◌, ◌-◌, ◌^◌, ◌<◌, ◌≤◌, refl, ap, ◌∙◌, arith}
 use Rattle.elf_types.specs.declared.output.OutFile.{OutFile}
 use Rattle.machine.specs.declared.outcome.Outcome.TheVariants.{Going, Ended}
@@ -23,11 +23,11 @@ use Rattle.test_gen.proofs.Within.{test_weavable}
 use Rattle.weave_core.proofs.Lemmas.{run-ended}
 
 -- ---- ends
--- a state and a number of steps, as far as a run has come
+-- a state, and the steps made up to it
 abbrev pub made : State → ℕ → Progress
 made s k = record { state = s; steps = k }
 
--- where a run has ended it stays
+-- a run that has ended stays so
 ended_step : (s : State) (k : ℕ) → s.outcome ≡ Ended → advanced (made s k) ≡ made s k
 unfolding advanced step
 ended_step s k e = ap (λ o. made (step_at o s) (steps_after o k)) e
@@ -43,7 +43,7 @@ going_step s k g small =
     let one : counted k ≡ k + 1 = omega (arith, small) in
     ap (λ o. made (step s) (steps_after o k)) g ∙ ap (made (step s)) one
 
--- one step nearer to the end
+-- one step closer to the end
 nearer : (s : State) (n : ℕ) → EndsAfter s (suc n) → EndsAfter (step s) n
 unfolding run
 nearer s n h = record { ends = h.ends; going = λ k l. h.going (suc k) (omega (arith, l)) }
@@ -56,7 +56,7 @@ at_start : (s : State) (n : ℕ) → EndsAfter s (suc n) → s.outcome ≡ Going
 unfolding run
 at_start s n h = h.going 0 (omega arith)
 
--- behind its end a run has come to its last state, with as many steps
+-- behind its end a run stays in its last state, with as many steps
 counted_from : (n m k : ℕ) (s : State) → EndsAfter s n → n ≤ m → k + n < 2 ^ 64 → progress (made s k) m ≡ made (run s n) (k + n)
 unfolding run progress
 counted_from zero m k s h few small =
@@ -69,7 +69,7 @@ counted_from (suc n) (suc m) k s h few small =
     ∙ counted_from n m (k + 1) (step s) (nearer s n h) (omega (arith, few)) (omega (arith, small))
     ∙ ap (made (run (step s) n)) all
 
--- ---- what is told of a run
+-- ---- the end of a run
 pub has_ended : (s : State) (n m : ℕ) → EndsAfter s n → n ≤ m → n < 2 ^ 64 → HasEnded (progress (begun s) m) n
 has_ended s n m h few small =
     let come = counted_from n m 0 s h few (omega (arith, small)) in
@@ -81,7 +81,7 @@ few_steps : (size : ℕ) → 1 ≤ size → size ≤ 60000 → test_steps size �
 unfolding test_steps
 few_steps size some most = let n = few_functions size some most in omega (arith, n.1)
 
--- whatever its bytes are read as, its run from registers 0 ends
+-- from registers 0, the run of the file that its bytes are read as ends
 pub own_ended :
     (seed size m : ℕ) → 1 ≤ size → size ≤ 60000 → 213765 ≤ m → (f : ElfFile) → IsReadAs (written (generated seed size)) f
     → HasEnded (progress (begun (start (loaded_file f) zeros)) m) (test_steps size)
@@ -97,7 +97,7 @@ unfolding progress run advanced
 progress_state zero p = refl
 progress_state (suc m) p = progress_state m (advanced p)
 
--- a run that ends within n steps has ended behind them
+-- a run that ends within n steps has ended after them
 ended_within : (s : State) (n m : ℕ) → EndsWithin s n → n ≤ m → (progress (begun s) m).state.outcome ≡ Ended
 ended_within s n m h few =
     let within = h.within in
@@ -106,7 +106,7 @@ ended_within s n m h few =
     let come : run s m ≡ run s h.steps = ap (run s) all ∙ run-more s h.steps rest ∙ run-ended rest (run s h.steps) h.ends in
     ap (λ (t : State). t.outcome) (progress_state m (begun s) ∙ come) ∙ h.ends
 
--- what is woven from a test has ended, from registers 0
+-- the output of a test has ended, from registers 0
 pub output_ended :
     (seed size m : ℕ) → 1 ≤ size → size ≤ 60000 → most_output_steps ≤ m → (out : OutFile)
     → (w : WovenFile (written (generated seed size)) default_options out) → HasSmallCode (written (generated seed size)) out w

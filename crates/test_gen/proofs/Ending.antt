@@ -35,7 +35,7 @@ unfolding file_with
 with_functions seed n some few regs count =
     file_ends seed n (24 * (1 + length (symbols n))) (length (string_table (symbol_names (symbols n)))) (length (string_table (section_names (file_with seed n).sections))) some few regs count
 
--- whatever its bytes are read as ends so
+-- the file that its bytes are read as ends after these steps
 pub test_ends :
     (seed size : ℕ) (bytes : List ℕ) → 1 ≤ size → size ≤ 60000 → IsReadAs bytes (file_read (generated seed size)) → (f : ElfFile) → IsReadAs bytes f
     → (regs : List ℕ) → AreStartRegs regs → EndsAfter (start (loaded_file f) regs) (test_steps size)

@@ -9,7 +9,7 @@ use Rattle.test_gen.specs.Random.{seeded, drawn, after, random_word}
 use Rattle.test_gen.specs.Code.{body_instruction, return, function, main, code}
 use Rattle.test_gen.proofs.RandomWords.{after-more}
 
--- the function that is made of the next words behind those of i functions
+-- the function made of the words behind those of i functions
 pub function_from : (seed i : ℕ) (g : Lcg) → g ≡ after (32 * i) (seeded seed) → each 32 (λ k. body_instruction (drawn (after k g))) ++ return ∷ [] ≡ function seed i
 unfolding function random_word
 function_from seed i g e =
@@ -20,7 +20,7 @@ function_from seed i g e =
 pub none_yet : (seed n : ℕ) → main n ≡ main n ++ gather 0 (function seed)
 none_yet seed n = sym (append-nil (main n)) ∙ ap (λ rest. main n ++ rest) (gather_none (function seed))
 
--- one function more
+-- one more function
 pub one_more : (seed i : ℕ) (front xs ys : List Ins) → ys ≡ xs ++ function seed i → xs ≡ front ++ gather i (function seed) → ys ≡ front ++ gather (i + 1) (function seed)
 one_more seed i front xs ys e so_far =
     e ∙ ap (λ l. l ++ function seed i) so_far ∙ append_assoc front (gather i (function seed)) (function seed i)

@@ -1,4 +1,4 @@
--- What a generated test has in memory: its code, the table of its functions, and its data.
+-- The memory of a generated test: its code, the table of its functions, and its data.
 use Rattle.std.proofs.Common.{◌≡◌, inr, ⊎_elim, ℕ, zero, suc, ◌+◌, ◌*◌, ◌<◌, ◌≤◌, true, false, cond, List, [], ◌∷◌, ◌++◌, length, Some, refl, sym, ap, ◌∙◌, subst, append_assoc, arith}
 use Rattle.std.proofs.lemmas.Bool.{cases_lt}
 use Rattle.std.proofs.lemmas.List.{append-nil}
@@ -144,7 +144,7 @@ module _ (seed n : ℕ) (code_part words : List ℕ) (symbols : List Symbol) (x 
         ∙ ap (field (8 * i) 8) s.is
         ∙ field-number_bytes 8 (function_at i) (8 * i) s.front s.rest s.size (omega (arith, h, few))
 
-    -- what stands in the code is fetched
+    -- the instructions of the code are fetched
     has_stood : (shape : IsShapely f) (a : ℕ) (is : List Ins) → StandFrom f a is → HasAt (fetched_at m (ranges_of f)) a is
     has_stood shape a [] h = tt
     has_stood shape a (i ∷ is) h = (known_instruction f shape a i h.0, has_stood shape (a + 4) is h.1)

@@ -14,7 +14,7 @@ use Rattle.test_gen.proofs.MainRun as in_main
 use Rattle.test_gen.proofs.MainRun.{IsMade, IsSet, IsIn, Comes, branch_taken, branch_not}
 
 module _ (m : Memory) (ranges : List (ℕ × ℕ)) (seed n : ℕ) (made : IsMade m ranges seed n) (some : 1 ≤ n) where
-  -- what is left alone where a register of `main` is set
+  -- the state of `main` after its table register is set
   set_table : (s : State) (pc to table next rounds left : ℕ) → IsIn m ranges seed n made s pc table rounds left → (a : IsSet m ranges seed n made s to 4 next) → IsIn m ranges seed n made a.end to next rounds left
   set_table s pc to table next rounds left h a = record { good = a.good; zero_is = a.others 0 refl ∙ h.zero_is; base = a.others 2 refl ∙ h.base; at = a.at; table_is = a.is; rounds_are = a.others 8 refl ∙ h.rounds_are; left_are = a.others 9 refl ∙ h.left_are }
 
@@ -39,7 +39,7 @@ module _ (m : Memory) (ranges : List (ℕ × ℕ)) (seed n : ℕ) (made : IsMade
       let a = in_main.compute m ranges seed n made (ins Addi 9 0 0 (pos n)) s 0x1000c n h.good h.at (omega arith) made.main_there.1.1.1.0 refl (omega arith) (omega arith) (omega (arith, zero_s, few)) in
       record { end = a.end; walk = a.walk; is_in = set_left s 0x1000c 0x10010 table rounds left n h a }
 
-  -- and the one behind them
+  -- the word behind the calls of a round
   round_word : (s : State) (table before rounds left : ℕ) → before ≡ rounds + 1 → before ≤ 3 → IsIn m ranges seed n made s 0x10024 table before left → Comes m ranges seed n made s 1 0x10028 table rounds left
   unfolding main computed_value value
   round_word s table before rounds left less most h =
@@ -64,7 +64,7 @@ module _ (m : Memory) (ranges : List (ℕ × ℕ)) (seed n : ℕ) (made : IsMade
       (λ t i. in_main.table_loop m ranges seed n made (n - 1) 0 n t before (omega (arith, some)) (omega arith) i) refl)
       (λ t i. round_word t (0x80000 + 8 * n) before rounds 0 less most i) (omega arith)
 
-  -- the branch behind it
+  -- the branch behind a round
   again : (s : State) (table rounds left : ℕ) → IsIn m ranges seed n made s 0x10028 table (rounds + 1) left → Comes m ranges seed n made s 1 0x10008 table (rounds + 1) left
   unfolding main
   again s table rounds left h =
@@ -114,7 +114,7 @@ module _ (m : Memory) (ranges : List (ℕ × ℕ)) (seed n : ℕ) (made : IsMade
   unfolding main computed_value value
   second_word s g at h = in_main.compute m ranges seed n made (ins Addi 8 0 0 (pos 3)) s 0x10004 3 g at (omega arith) made.main_there.1.0 refl (omega arith) (omega arith) (omega (arith, h))
 
-  -- and the last
+  -- the last word
   stop : (s : State) (table : ℕ) → IsIn m ranges seed n made s 0x1002c table 0 0 → step s ≡ stopped Ended s
   unfolding main execute
   stop s table h =

@@ -22,7 +22,7 @@ use Rattle.test_gen.proofs.Plain.{every_at, every_each}
 use Rattle.test_gen.proofs.Runs.{is_main, IsAccess, IsBody, Computes, Loads, Stores, HasData, IsGood, Goes, Reaches, good_set, good_jump, next_is, body_walk}
 use Rattle.weave_core.proofs.Lemmas.{has_front}
 
--- ---- what bodies are
+-- ---- the contents of bodies
 own_index : (xs : List ℕ) (k : ℕ) → k < length xs → list_all (λ x. not (is_main x)) xs ≡ true → is_main (slice_index xs k) ≡ false
 own_index [] k h e = absurd (omega (arith, h))
 own_index (x ∷ xs) zero h e = not-true (is_main x) (and_parts (not (is_main x)) (list_all (λ y. not (is_main y)) xs) e).0
@@ -76,7 +76,7 @@ pub has_right : (c : ℕ → Fetched) (a : ℕ) (xs ys : List Ins) (b : ℕ) →
 has_right c a [] ys b h e = let same : a ≡ b = omega (arith, e) in subst (λ x. HasAt c x ys) same h
 has_right c a (x ∷ xs) ys b h e = has_right c (a + 4) xs ys b h.1 (omega (arith, e))
 
--- what a generated test has in memory
+-- the memory of a generated test
 pub record IsMade (m : Memory) (ranges : List (ℕ × ℕ)) (seed n : ℕ) : Type 0 where
   pub few : n ≤ 1875
   pub data_there : HasData m
@@ -242,7 +242,7 @@ module _ (m : Memory) (ranges : List (ℕ × ℕ)) (seed n : ℕ) (made : IsMade
         is_in = record { good = good_jump m ranges s at g; zero_is = h.zero_is; base = h.base; at = there; table_is = h.table_is; rounds_are = h.rounds_are; left_are = h.left_are };
       }
 
-  -- a counter is not 0, or it is
+  -- a counter is 0, or not
   pub differs : (x y k : ℕ) → x ≡ k + 1 → y ≡ 0 → holds Bne x y ≡ true
   unfolding holds
   differs x y k e z = by (x == y) refl where

@@ -57,7 +57,7 @@ pub length-order : (ss : List Segment) → length (in_order ss) ≡ length ss
 length-order [] = refl
 length-order (s ∷ ss) = omega (arith, length-insert s (in_order ss), length-order ss)
 
--- each begins less than 4096 bytes behind the one before
+-- each segment begins less than 4096 bytes behind the one before
 end_below : (at : ℕ) (ss : List Segment) → end_from at ss ≤ at + 4095 * length ss + bytes_in ss
 end_below at [] = omega arith
 end_below at (s ∷ ss) = omega (arith, offset_room at s.address, end_below (offset_from at s.address + length s.bytes) ss)
@@ -114,7 +114,7 @@ module _ (f : ElfFile) (half : Option ℕ) (table : Bool) (rows : List EntryRow)
   abbrev out : OutFile
   out = file_of f half table rows code
 
-  -- what stands behind the halves
+  -- the segments behind the halves
   abbrev behind : Bool → List Segment
   behind t = (if t then table_segment d rows ∷ [] else []) ++ code_segment at code ∷ []
 

@@ -19,7 +19,7 @@ use Rattle.qed_model.proofs.Lemmas.{has_word, is_some-some_if, addi_word, fits_1
 use Rattle.test_gen.specs.Random.{random_word}
 use Rattle.test_gen.specs.Code.{body_registers, register_from, body_forms, body_instruction, return, function, main, code}
 
--- what each instruction is
+-- the facts on each instruction
 pub record IsPlain (i : Ins) : Type 0 where
   pub word : has_word i ≡ true
   pub low : is_none (high_register i) ≡ true
@@ -41,7 +41,7 @@ low_registers i d a b =
     let second = low_named (reads_rs2 (class_of i.kind) i.kind) i.rs2 b in
     λ n. is_none (option_or (write n) (option_or (first n) (second n)))
 
--- those of a list
+-- registers of a list are low
 low_index : (xs : List ℕ) (k : ℕ) → list_all (λ x. nat_le x LAST_ORIGINAL) xs ≡ true → slice_index xs k ≤ LAST_ORIGINAL
 low_index [] k e = omega arith
 low_index (x ∷ xs) zero e = leb-true x LAST_ORIGINAL (and_parts (nat_le x LAST_ORIGINAL) (list_all (λ y. nat_le y LAST_ORIGINAL) xs) e).0
@@ -116,7 +116,7 @@ main_plain n h =
     let count : IsPlain (ins Addi 9 0 0 (pos n)) = plain _ (addi_word 9 0 (pos n) (omega arith) (omega arith) (lt-ltb n 2048 (omega (arith, h)))) refl refl in
     (plain _ refl refl refl, (plain _ refl refl refl, (plain _ refl refl refl, (count, (plain _ refl refl refl, (plain _ refl refl refl, (plain _ refl refl refl, (plain _ refl refl refl, (plain _ refl refl refl, (plain _ refl refl refl, (plain _ refl refl refl, (plain _ refl refl refl, tt))))))))))))
 
--- all of it
+-- all of the code
 pub code_plain : (seed n : ℕ) → n ≤ 1875 → Every IsPlain (code seed n)
 unfolding code
 code_plain seed n h = every-append IsPlain (main n) (gather n (function seed)) (main_plain n h) (every_gather IsPlain n (function seed) (function_plain seed))

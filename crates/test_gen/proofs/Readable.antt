@@ -62,7 +62,7 @@ module _ (seed size : ℕ) (some : 1 ≤ size) (most : size ≤ 60000) where
   unfolding generated
   test_read = let n = few_functions size some most in read_with seed (function_count size) n.1
 
-  -- whatever its bytes are read as is admitted
+  -- the file that its bytes are read as is admitted
   pub test_admitted : (f : ElfFile) → IsReadAs (written (generated seed size)) f → IsAdmitted f default_options
   test_admitted f read = admitted seed size (written (generated seed size)) some most test_read f read
 

@@ -14,7 +14,7 @@ use Rattle.machine.proofs.Lemmas.{same_number, get-put_outside, grants_from, gra
 use Rattle.machine.specs.Members.{Every}
 
 -- ---- registers
--- those that `main` names and bodies do not
+-- the registers that `main` names and bodies do not
 abbrev pub is_main : ℕ → Bool
 is_main r = list_any (λ k. r == k) (0 ∷ 1 ∷ 2 ∷ 4 ∷ 8 ∷ 9 ∷ [])
 
@@ -49,7 +49,7 @@ pub record HasData (m : Memory) : Type 0 where
   pub reads : (k : ℕ) → k < 2048 → allows (λ f. f.read) (get m (0x90000 + k)) ≡ true
   pub writes : (k : ℕ) → k < 2048 → allows (λ f. f.write) (get m (0x90000 + k)) ≡ true
 
--- it goes on, with the permissions of the memory, and all that is below the data
+-- the state goes on, with the permissions of the memory, and all that is below the data
 pub record IsGood (m : Memory) (ranges : List (ℕ × ℕ)) (s : State) : Type 0 where
   pub going : s.outcome ≡ Going
   pub ranges_are : s.ranges ≡ ranges
@@ -156,7 +156,7 @@ module _ (m : Memory) (ranges : List (ℕ × ℕ)) where
           keeps = λ r e. refl;
         }
 
-    -- and a list of them
+    -- a list of body instructions
     pub body_walk :
         (is : List Ins) (s : State) → Every IsBody is → IsGood m ranges s → reg s 2 ≡ 0x90000 → s.pc + 4 * length is ≤ 0x90000 → HasAt (fetched_at m ranges) s.pc is
         → Reaches s (length is) (s.pc + 4 * length is)

@@ -1,4 +1,4 @@
--- The segments and sections of a generated file, as it is read: no rule of admission on them holds.
+-- The segments and sections of a generated file, when it is read: no rule of admission on them holds.
 use Rattle.std.proofs.Common.{◌≡◌, ℕ, ◌+◌, ◌-◌, ◌*◌, ◌/◌, ◌%◌, ◌≤◌, true, false, List, [], ◌∷◌, ◌++◌, length, map, refl, ap, ◌∙◌, arith}
 use Rattle.std.specs.Prelude.{nat_lt, nat_le, ◌==◌}
 use Rattle.std.specs.List.{list_any}
@@ -16,7 +16,7 @@ use Rattle.elf_write.specs.Plain.{segment}
 use Rattle.test_gen.specs.Generated.{sections}
 use Rattle.test_gen.proofs.Stands.{IsImage, field_first}
 
--- what is read, of the bytes of the three segments; the tables have any sizes
+-- the file that is read, by the bytes of its three segments; tables may have any size
 abbrev pub file_of : List ℕ → List ℕ → List ℕ → List Symbol → ℕ → ℕ → ℕ → ElfFile
 file_of code table words symbols x y z = record {
   entry = 0x10000;

@@ -1,4 +1,4 @@
--- How long the parts of a generated file are.
+-- The sizes of the parts of a generated file.
 use Rattle.std.proofs.Common.{◌≡◌, ℕ, zero, suc, ◌+◌, ◌*◌, length, map, refl, arith, length-append}
 use Rattle.std.proofs.lemmas.List.{length-map}
 use Rattle.machine.specs.Below.{gather}

@@ -1,4 +1,4 @@
--- The instructions of a generated test stand in its code range, one behind the other.
+-- The instructions of a generated test stand in its code range, one behind another.
 use Rattle.std.proofs.Common.{◌≡◌, ℕ, zero, suc, ◌+◌, ◌-◌, ◌*◌, ◌%◌, ◌<◌, ◌≤◌, Bool, true, false, cond, not, ◌&&◌, ◌||◌, List, [], ◌∷◌, ◌++◌, drop, length, map, Option, Some, None, refl, sym, ap, ◌∙◌, subst, append_assoc, length-append, arith}
 use Rattle.std.specs.Prelude.{is_none, is_some, nat_lt, nat_le, ◌==◌, slice_index, unwrap_or, if◌then◌else◌}
 use Rattle.std.proofs.lemmas.Bool.{and_from, or_left, eq-eqb, lt-ltb, le-leb, false≢true}
@@ -21,7 +21,7 @@ use Rattle.test_gen.specs.Generated.{generated_word}
 use Rattle.test_gen.proofs.Plain.{IsPlain}
 
 -- ---- numbers in the first segment
--- those from a place on stand at that place
+-- the numbers from a place on stand at that place
 from_place : (k i n : ℕ) (xs : List ℕ) → little_from i n (drop k xs) ≡ little_from (k + i) n xs
 from_place k i zero xs = refl
 from_place k i (suc n) xs =
@@ -60,7 +60,7 @@ pub record IsImage (f : ElfFile) (from : ℕ) (bytes : List ℕ) : Type 0 where
   pub words : (k : ℕ) → k + 4 ≤ length bytes → word_at f (from + k) ≡ field k 4 bytes
 
 module _ (f : ElfFile) (from : ℕ) (bytes : List ℕ) (image : IsImage f from bytes) where
-  -- each of its words is at a code address
+  -- each word of the range is at a code address
   pub code_here : (k : ℕ) → k % 4 ≡ 0 → k < length bytes → is_code f (from + k) ≡ true
   code_here k g l =
       let grain = image.grain in
@@ -88,7 +88,7 @@ module _ (f : ElfFile) (from : ℕ) (bytes : List ℕ) (image : IsImage f from b
             (omega (arith, l, length-append front (number_bytes 4 w), length-number_bytes 4 w)) (omega (arith, g)) (omega (arith, at)),
       )
 
-  -- so they are all of its code
+  -- the instructions are all of the file's code
   pub known : (code : List Ins) → Every IsPlain code → bytes ≡ bytes_of (map generated_word code) → IsCodeOf f from code
   known code p e =
       let size : length bytes ≡ 4 * length code = ap length e ∙ length-bytes_of (map generated_word code) ∙ ap (λ n. 4 * n) (length-map code generated_word) in

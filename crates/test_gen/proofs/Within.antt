@@ -1,4 +1,4 @@
--- Where the new code of a generated test is within its limit, the output is within the others, and its run ends.
+-- If the new code of a generated test is within its limit, the output is within the others, and its run ends.
 use Rattle.std.proofs.Common.{◌≡◌, ◌⊎◌, inl, inr, ⊎_elim, ℕ, suc, ◌+◌, ◌-◌, ◌*◌, ◌%◌, ◌<◌, ◌≤◌, Bool, true, false, ◌||◌, ◌==◌, List, [], ◌∷◌, ◌++◌, length, map, None, refl, sym, ap, ◌∙◌, subst, arith}
 use Rattle.std.specs.Prelude.{AllPairs, nat_lt, nat_le}
 use Rattle.std.proofs.lemmas.Bool.{and_parts, or_cases, eqb-true, leb-true, ltb-true, false≢true}
@@ -182,7 +182,7 @@ module _ (seed n x y z : ℕ) (some : 1 ≤ n) (few : n ≤ 1875) where
         length-each (file_end r.0 (data_in (image_of f) r) - r.0) (λ k. byte_among (load_segments (image_of f)) (r.0 + k)),
       )
 
-  -- ---- the output, of these blocks
+  -- ---- the output with these blocks
   module _ (bs : List Block) (words : List ℕ) (are : AreBlocks f default_options bs) (new : IsNewCode f default_options bs words)
       (short : IsSmallCode f bs) where
     abbrev far : Bool
@@ -194,7 +194,7 @@ module _ (seed n x y z : ℕ) (some : 1 ≤ n) (few : n ≤ 1875) where
     abbrev out : OutFile
     out = woven_file f default_options bs words
 
-    -- they begin at code addresses
+    -- the blocks begin at code addresses
     starts_few : (b : Block) → Among b bs → (0x10000 ≤ b.start) × (b.start < code_end)
     starts_few b m =
         let g = all_among (λ b. IsLeaderBlock f default_options b ⊎ IsOtherBlock f default_options b) b bs are.each m in
@@ -294,7 +294,7 @@ module _ (seed n x y z : ℕ) (some : 1 ≤ n) (few : n ≤ 1875) where
         }
 
 -- ---- the test of a seed and a size
--- what is woven from a file is within the limits, where its new code is, and its run ends
+-- the output of a file is within the limits, if its new code is, and its run ends
 record IsGood (f : ElfFile) (bs : List Block) (words : List ℕ) : Type 0 where
   within : IsWithin (compared f default_options bs) (woven_file f default_options bs words)
   ends :

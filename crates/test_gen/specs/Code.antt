@@ -1,4 +1,4 @@
--- The code of a generated test: `main`, which calls each function three times, and the functions, which are made of random words.
+-- The code of a generated test: `main`, which calls each function three times, and the functions of random words.
 use Rattle.std.specs.Prelude.{ℕ, ◌+◌, ◌*◌, ◌/◌, ◌%◌, ◌^◌, pos, negsuc, ◌-ℤ◌, List, [], ◌∷◌, ◌++◌, slice_index, slice_index_or}
 use Rattle.rv_isa.specs.declared.profile.TheConstants.{LAST_ORIGINAL}
 use Rattle.rv_isa.specs.Ins.{nop}
@@ -11,11 +11,11 @@ use Rattle.test_gen.specs.Random.{random_word}
 abbrev pub body_registers : List ℕ
 body_registers = 5 ∷ 6 ∷ 7 ∷ 10 ∷ 11 ∷ 12 ∷ LAST_ORIGINAL ∷ []
 
--- the one that a word chooses by its bits from a place on
+-- the register that a word chooses by its bits from a place on
 abbrev pub register_from : ℕ → ℕ → ℕ
 register_from place word = slice_index body_registers (word / 2 ^ place % 7)
 
--- the eight forms of a body instruction, of its registers and of a number below 256; data words are counted from x2
+-- the eight forms of a body instruction, of its registers and a number below 256; data words count from x2
 abbrev pub body_forms : ℕ → ℕ → ℕ → ℕ → List Ins
 body_forms rd rs1 rs2 m =
     ins Add rd rs1 rs2 (pos 0)
@@ -50,7 +50,7 @@ unfoldable pub function : ℕ → ℕ → List Ins
 function seed i = each 32 (λ k. body_instruction (random_word seed (32 * i + k))) ++ return ∷ []
 
 -- ---- main
--- with n functions: three times over the table, whose entries are called one after the other
+-- main for n functions: three rounds over the table, which call its entries one after another
 unfoldable pub main : ℕ → List Ins
 main n =
     ins Lui 2 0 0 (pos 0x90000)
@@ -68,6 +68,6 @@ main n =
     ∷ []
 
 -- ---- the whole code
--- of n functions
+-- the code with n functions
 unfoldable pub code : ℕ → ℕ → List Ins
 code seed n = main n ++ gather n (function seed)

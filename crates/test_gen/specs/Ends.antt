@@ -10,7 +10,7 @@ pub record EndsAfter (s : State) (n : ℕ) : Type 0 where
   pub ends : (run s n).outcome ≡ Ended
   pub going : (k : ℕ) → k < n → (run s k).outcome ≡ Going
 
--- of n functions: `main` has three words outside of its rounds, and four in each beside the calls, of 38 steps each
+-- for n functions: `main` has three words outside of its rounds, and four in each, besides calls of 38 steps each
 abbrev pub run_steps : ℕ → ℕ
 run_steps n = 3 + 3 * (4 + 38 * n)
 
@@ -18,13 +18,13 @@ run_steps n = 3 + 3 * (4 + 38 * n)
 unfoldable pub test_steps : ℕ → ℕ
 test_steps size = run_steps (function_count size)
 
--- step n of a run at the latest is its ECALL
+-- the run ends after at most n steps
 pub record EndsWithin (s : State) (n : ℕ) : Type 0 where
   pub steps : ℕ
   pub within : steps ≤ n
   pub ends : (run s steps).outcome ≡ Ended
 
--- a run whose steps were counted has ended, after so many
+-- a run whose steps were counted has ended, after n of them
 pub record HasEnded (p : Progress) (n : ℕ) : Type 0 where
   pub outcome : p.state.outcome ≡ Ended
   pub steps : p.steps ≡ n

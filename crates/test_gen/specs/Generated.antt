@@ -28,7 +28,7 @@ function_at i = 0x10000 + 48 + 132 * i
 unfoldable pub table_bytes : ℕ → List ℕ
 table_bytes n = gather n (λ i. number_bytes 8 (function_at i))
 
--- 256 words of 8 bytes, of which word i is i
+-- 256 words of 8 bytes; word i is i
 unfoldable pub data_bytes : List ℕ
 data_bytes = gather 256 (λ i. number_bytes 8 i)
 
@@ -42,7 +42,7 @@ abbrev pub data_segment : Segment
 data_segment = segment (PF_R + PF_W) 0x90000 data_bytes
 
 -- ---- sections
--- over the code, the table and the data
+-- the sections over the code, the table and the data
 abbrev pub sections : Segment → Segment → Segment → List OutSection
 sections code table words =
     section (codes ".text") (SHF_ALLOC + SHF_EXECINSTR) code
@@ -51,7 +51,7 @@ sections code table words =
     ∷ []
 
 -- ---- symbols
--- a function, whose size is not told
+-- the symbol of a function, without a size
 abbrev pub symbol : List ℕ → ℕ → Symbol
 symbol name address = record { name = name; value = address; size = 0; kind = STT_FUNC; binding = STB_GLOBAL; other = 0; index = SHN_ABS }
 
@@ -63,7 +63,7 @@ abbrev pub symbols : ℕ → List Symbol
 symbols n = symbol (codes "main") 0x10000 ∷ each n function_symbol
 
 -- ---- the file
--- with n functions
+-- the file with n functions
 unfoldable pub file_with : ℕ → ℕ → OutFile
 file_with seed n = record {
   entry = 0x10000;

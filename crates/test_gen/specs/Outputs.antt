@@ -1,4 +1,4 @@
--- What is woven from a generated test, where no option is given.
+-- What is woven from a generated test, without options.
 use Rattle.std.specs.Prelude.{ℕ, ◌≤◌, List}
 use Rattle.elf_types.specs.declared.output.OutFile.{OutFile}
 use Rattle.machine.specs.declared.limits.Limit.TheVariants as limit
@@ -11,7 +11,7 @@ use Rattle.qed_model.specs.Weave.Woven.{code_size, compared, IsWithin}
 use Rattle.qed_model.specs.Weave.Output.{WovenFile}
 use Rattle.test_gen.specs.Ends.{EndsWithin}
 
--- the most steps of an output: 33 of what runs first, and 123 of a piece for each of the 213,765 steps of the largest test and for one more
+-- the most steps of an output: 33 before the entries, 123 for each of the largest test's 213,765 steps and for one more
 abbrev pub most_output_steps : ℕ
 most_output_steps = 26293251
 
@@ -19,7 +19,7 @@ most_output_steps = 26293251
 abbrev pub HasSmallCode : (bytes : List ℕ) (out : OutFile) → WovenFile bytes default_options out → Type 0
 HasSmallCode bytes out w = code_size w.file default_options w.blocks ≤ limit_of limit.CodeBytes
 
--- where it is, the output is within the others, and its run ends, from any registers
+-- if the new code is within its limit, the output is within the others, and its run ends, from any registers
 pub record IsWeavable (bytes : List ℕ) : Type 0 where
   pub within :
       (out : OutFile) (w : WovenFile bytes default_options out) → HasSmallCode bytes out w

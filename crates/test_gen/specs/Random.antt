@@ -12,7 +12,7 @@ seeded seed = pcg64_of_seed (pcg32_seed 32 seed)
 unfoldable pub drawn : Lcg → ℕ
 drawn g = (pcg64 g).0
 
--- the generator behind that word
+-- the generator behind its next word
 unfoldable pub next : Lcg → Lcg
 next g = (pcg64 g).1
 

@@ -6,7 +6,7 @@ use crate::instruction::instruction;
 use rv_isa::profile::LAST_ORIGINAL;
 use rv_isa::{Ins, Kind};
 
-/// The registers that bodies name. The others hold where `main` is, and the data.
+/// The registers that bodies name. The others hold the place in `main`, and the data.
 const BODY_REGISTERS: [u8; 7] = [5, 6, 7, 10, 11, 12, LAST_ORIGINAL];
 
 /// The register that a random word chooses by its bits from a place on.

@@ -27,7 +27,7 @@ pub fn function_count(size: u64) -> u64
     size.div_ceil(BODY_SIZE)
 }
 
-/// Appends a function of the next random words.
+/// Appends a function made of the next random words.
 #[tactic(auto, using(machine::proofs::Lemmas::each_front, machine::proofs::Lemmas::push_after))]
 fn push_function(code: &mut Vec<Ins>, rng: &mut Pcg64) -> Result<(), AllocError>
     ensures code { OnOk result (code.new.items ≡ code.old.items ++ (each 32 (λ k. body_instruction_of (drawn_of (after k rng.old))) ++ return ∷ [])) }
@@ -62,7 +62,7 @@ fn main_code(functions: u64) -> [Ins; 12]
     ]
 }
 
-/// The code of so many functions, with `main` in front.
+/// The code of `functions` functions, with `main` in front.
 #[tactic(auto, using(crate::proofs::Functions::function_from, crate::proofs::Functions::none_yet, crate::proofs::Functions::one_more), unfolding(crate::specs::Code::code))]
 pub fn code(alloc: Global, seed: u64, functions: u64) -> Result<Vec<Ins>, AllocError>
     requires { functions ≤ 1875 }
@@ -88,7 +88,7 @@ pub fn words_bytes(alloc: Global, code: &[Ins]) -> Result<Vec<u8>, AllocError>
     Ok(bytes)
 }
 
-/// How many words the code of a test of this size has, of which `main` has 12 and each function 33.
+/// How many words the code of a test of this size has: 12 of `main` and 33 of each function.
 pub fn code_words(size: u64) -> u64
     requires { size ≤ 60000 }
     ensures { (seed : ℕ) → result ≡ length (code_of seed (function_count_of size)) }

@@ -58,7 +58,7 @@ fn symbol(name: Vec<u8>, address: u64) -> Symbol
     }
 }
 
-/// The symbol of the function of a number.
+/// The symbol of function `number`.
 #[tactic(auto, unfolding(crate::specs::Generated::function_symbol))]
 fn function_symbol(alloc: Global, number: u64) -> Result<Symbol, AllocError>
     requires { number < 1875 }
@@ -68,7 +68,7 @@ fn function_symbol(alloc: Global, number: u64) -> Result<Symbol, AllocError>
     Ok(symbol(name.into_bytes(), function_at(number)))
 }
 
-/// The symbols of `main` and of so many functions.
+/// The symbols of `main` and of `functions` functions.
 #[tactic(auto, using(machine::proofs::Lemmas::each_none, machine::proofs::Lemmas::push_after))]
 fn symbols(alloc: Global, functions: u64) -> Result<Vec<Symbol>, AllocError>
     requires { functions ≤ 1875 }
@@ -82,7 +82,7 @@ fn symbols(alloc: Global, functions: u64) -> Result<Vec<Symbol>, AllocError>
     Ok(symbols)
 }
 
-/// The file of so many functions, before it is written.
+/// The file of `functions` functions, before it is written.
 #[tactic(auto, unfolding(crate::specs::Generated::file_with, crate::specs::Generated::code_bytes))]
 fn file_with(alloc: Global, seed: u64, functions: u64) -> Result<OutFile, AllocError>
     requires { functions ≤ 1875 }
@@ -102,10 +102,10 @@ fn file_with(alloc: Global, seed: u64, functions: u64) -> Result<OutFile, AllocE
     })
 }
 
-/// The test of a seed and a size, as an ELF64 executable for RISC-V. It has `size / 32` functions, rounded up, each of 32
-/// random instructions, which `main` calls three times; the random words are those of PCG XSL RR 128/64 with the seed.
-/// Its bytes are read as that file, which is admitted where no option is given, and its run ends, from any registers. Where its
-/// new code is within the limit, so is what is woven from it, and the run of that ends too.
+/// The test of a seed and a size, as an ELF64 executable for RISC-V. It has `size / 32` functions, rounded up, each of
+/// 32 random instructions; `main` calls each three times. The random words are those of PCG XSL RR 128/64.
+/// Its bytes are read as that file, which is admitted without options, and its run ends, from any
+/// registers. If its new code is within the limit, so is its output, and the output's run ends too.
 ///
 /// The only error is want of memory.
 pub fn generate(alloc: Global, seed: u64, size: u64) -> Result<Bytes, AllocError>

@@ -1,6 +1,6 @@
 //! Generated tests: functions of random instructions, and a `main` that calls each of them three times.
 //!
-//! The same seed and size always give the same file.
+//! A seed and a size always give one file.
 #![tactic(auto)]
 
 mod body;

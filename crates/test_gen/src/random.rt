@@ -1,4 +1,4 @@
-//! Random words, by a seed: those of the generator PCG XSL RR 128/64. The same seed always gives the same words.
+//! Random words, by a seed: those of the generator PCG XSL RR 128/64. A seed always gives the words again.
 ghost use Rattle.std.specs.Prelude.{◌≡◌};
 ghost use Rattle.test_gen.specs.Random.{seeded as seeded_of, drawn as drawn_of, next};
 

@@ -34,7 +34,7 @@ fn push_number(bytes: &mut Vec<u8>, number: u64) -> Result<(), AllocError>
     Ok(())
 }
 
-/// The addresses of so many functions, 8 bytes each.
+/// The addresses of `functions` functions, 8 bytes each.
 #[tactic(auto, using(machine::proofs::BelowLaws::gather_none, machine::proofs::BelowLaws::gather_more), unfolding(crate::specs::Generated::table_bytes))]
 pub fn table_bytes(alloc: Global, functions: u64) -> Result<Vec<u8>, AllocError>
     requires { functions ≤ 1875 }
@@ -47,7 +47,7 @@ pub fn table_bytes(alloc: Global, functions: u64) -> Result<Vec<u8>, AllocError>
     Ok(bytes)
 }
 
-/// The data words, of which each holds its number.
+/// The data words; each holds its number.
 #[tactic(auto, using(machine::proofs::BelowLaws::gather_none, machine::proofs::BelowLaws::gather_more), unfolding(crate::specs::Generated::data_bytes))]
 pub fn data_bytes(alloc: Global) -> Result<Vec<u8>, AllocError>
     ensures { IfOk result (λ bytes. bytes.items ≡ data_bytes_of) }

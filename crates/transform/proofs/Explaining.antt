@@ -1,4 +1,4 @@
--- What is told of the new code of a test.
+-- The words of an output's new code, with their roles.
 use Rattle.std.proofs.Common.{◌≡◌, ℕ, ◌*◌, ◌≤◌, Option, Some, None, List, length, map, arith, ◌∙◌, sym, ap, subst}
 use Rattle.elf_types.specs.declared.file.ElfFile.{ElfFile}
 use Rattle.tests.specs.declared.options.Options.{Options}

@@ -1,4 +1,4 @@
--- The causes of errors exclude each other, and what is made.
+-- The causes of errors exclude each other, and exclude an output.
 use Rattle.std.proofs.Common.{◌≡◌, ℕ, List, length, inl, inr, refl, sym, ap, ◌∙◌, subst, arith}
 use Rattle.std.specs.Prelude.{◌≢◌, Result, Ok, Err, IfOk, IfErr}
 use Rattle.elf_types.specs.declared.error.ElfError.{ElfError}
@@ -39,13 +39,13 @@ module _ (input : List ℕ) (o : Options) where
       let same = one_file input f g rf.file rg.file in
       ap (λ x. new_code x o bs) same ∙ ap (λ bs. new_code g o bs) (blocks_only g o bs cs (subst (λ x. AreBlocks x o bs) same ab) ac)
 
-  -- it is too large, or within its limit
+  -- the new code is too large, or within its limit
   too_large : (most : Limit) (n : ℕ) (f : ElfFile) (bs : List Block) → HasTooMuchCode input o most n → IsReadAs input f → AreBlocks f o bs → IsFew (new_code f o bs) → ⊥
   too_large most n f bs x read are small =
       let few : IsFew (new_code x.file o x.blocks) = subst IsFew (one_code f x.file bs x.blocks read x.read are x.are) small in
       omega (arith, x.over, x.count, few, ap limit_of x.limit)
 
-  -- so is an input by one cause
+  -- an input is refused by one cause
   pub one_cause : (a b : TransformError) → a ≢ error.Memory → b ≢ error.Memory → HasCause input o a → HasCause input o b → a ≡ b
   one_cause error.Memory b n m x y = absurd (n refl)
   one_cause a error.Memory n m x y = absurd (m refl)
@@ -79,7 +79,7 @@ module _ (input : List ℕ) (o : Options) where
   one_cause (error.FileTooLong a) (error.FileTooLong b) n m x y =
       ap error.FileTooLong (x.size ∙ ap (λ out. length (written out)) (one_woven_test input o x.out y.out x.file y.file) ∙ sym y.size)
 
-  -- ---- what an answer says of all causes
+  -- ---- what an answer implies for all causes
   error_or : {A : Type 0} (x e : TransformError) → e ≢ error.Memory → HasCause input o x → HasCause input o e → IsErrorOr {A = A} (Err x) e
   error_or error.Memory e n c h = inr refl
   error_or x e n c h = inl (ap Err (one_cause x e (λ m. absurd (cc)) n c h))

@@ -1,4 +1,4 @@
--- How long a file is with symbols, by how long it is without.
+-- The size of a file with symbols, from its size without.
 use Rattle.std.proofs.Common.{◌≡◌, ℕ, ◌+◌, ◌*◌, ◌/◌, ◌%◌, List, [], length, map, ap, arith}
 use Rattle.elf_types.specs.declared.file.Symbol.{Symbol}
 use Rattle.elf_types.specs.declared.output.OutFile.{OutFile}

@@ -1,4 +1,4 @@
--- What is known of a test with its blocks.
+-- Facts on a test with its blocks.
 use Rattle.std.proofs.Common.{◌≡◌, ℕ, ◌+◌, ◌^◌, ◌<◌, ◌≤◌, Bool, true, false, List, length, map, All, get_or, refl, ap, ◌∙◌, arith, Option, Some, None, SomeIff, IsSome, sym}
 use Rattle.tests.specs.declared.options.Options.{Options}
 use Rattle.qed_model.specs.declared.bounds.Bounds.{Bounds}
@@ -71,7 +71,7 @@ module _ (f : ElfFile) (o : Options) (t : Test) (blocks : List CodeBlock) (cut :
       (λ k x h. code_grain f (get_or bs k x).start (code k x h))
       (λ k x h. let b = bounded (get_or bs k x).start (code k x h) in omega (arith, b.1, cut.told.base, cut.told.distance))
 
-  -- and end below 2^63
+  -- all blocks end below 2^63
   pub all_whole : All IsWhole blocks
   all_whole =
       let top = is_image.top in

@@ -1,4 +1,4 @@
--- The new code of a test, and what each of its words is for.
+-- The new code of a test, and the roles of its words.
 use Rattle.std.specs.Prelude.{◌≡◌, ℕ, ◌+◌, ◌*◌, ◌^◌, ◌<◌, List, length}
 use Rattle.tests.specs.declared.options.Options.{Options}
 use Rattle.qed_model.specs.declared.plan.Plan.{Plan}
@@ -9,8 +9,8 @@ use Rattle.qed_model.specs.Weave.Output.{HasNewCode}
 use Rattle.transform.specs.declared.explained.Explained.{Explained}
 use Rattle.transform.specs.Transform.{Transforms}
 
--- there is an output of the input; these are the words of its new code, the place where they begin, and what they are for; each has an
--- address below 2^64
+-- the input has an output; these are the words of its new code, the address of the first, and their roles; each address
+-- is below 2^64
 pub record IsExplained (input : List ℕ) (o : Options) (x : Explained) : Type 0 where
   pub output : List ℕ
   pub plan : Plan

@@ -1,4 +1,4 @@
--- What is made of a test with its blocks.
+-- The output of a test with its blocks, before it is written.
 use Rattle.std.specs.Prelude.{◌≡◌, ℕ, ◌<◌, ◌≤◌, List, length, map}
 use Rattle.elf_types.specs.declared.file.ElfFile.{ElfFile}
 use Rattle.elf_types.specs.declared.output.OutFile.{OutFile}
@@ -19,7 +19,7 @@ use Rattle.transform.specs.declared.error.TransformError.TheVariants as error
 abbrev pub code_for : ElfFile → Options → List CodeBlock → NewCode
 code_for f o blocks = new_code f o (map block_of blocks)
 
--- these are its words and entries, which are within the limit, with the table or without, and its bounds
+-- the words and entries of the new code, within its limit, with the table or without, and its bounds
 pub record IsCoded (c : NewCode) (f : ElfFile) (o : Options) (made : Coded) : Type 0 where
   pub code : IsCodeFor c f o made.linked.words.items
   pub entries : made.linked.entries.items ≡ entries_in c f o
@@ -27,7 +27,7 @@ pub record IsCoded (c : NewCode) (f : ElfFile) (o : Options) (made : Coded) : Ty
   pub bounds : made.bounds ≡ c.bounds
   pub few : size_of_code c ≤ limit_of c.limit
 
--- the file with the new code of the test, and what is told of it
+-- the file with the new code of the test, and its plan
 pub record IsMade (f : ElfFile) (o : Options) (blocks : List CodeBlock) (out : OutFile) (plan : Plan) : Type 0 where
   pub words : List ℕ
   pub test : IsTest (code_for f o blocks) f o (map block_of blocks) words

@@ -26,7 +26,7 @@ pub(crate) struct CutTest {
     pub blocks: Blocks,
 }
 
-/// The file that bytes are.
+/// The file with these bytes.
 fn read(alloc: Global, bytes: &[u8]) -> Result<ElfFile, TransformError>
     ensures read { IfOk result (λ f. IsReadAs bytes.now f) }
     ensures sound { IfOk result IsSound }
@@ -41,7 +41,7 @@ fn read(alloc: Global, bytes: &[u8]) -> Result<ElfFile, TransformError>
     }
 }
 
-/// The test that a file is.
+/// The test of a file.
 fn test_of(alloc: Global, file: &ElfFile, options: &Options) -> Result<Test, TransformError>
     requires sound { AreSoundOptions options.now }
     requires fit { AllFitMemory (load_segments file.now.segments) }
@@ -56,7 +56,7 @@ fn test_of(alloc: Global, file: &ElfFile, options: &Options) -> Result<Test, Tra
     }
 }
 
-/// The test that bytes are, with its blocks.
+/// The test with these bytes, and its blocks.
 pub(crate) fn cut_test(
     alloc: Global,
     bytes: &[u8],

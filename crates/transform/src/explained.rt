@@ -1,4 +1,4 @@
-//! The new code of a test, and what each of its words is for.
+//! The new code of a test, and the roles of its words.
 ghost use Rattle.std.specs.Prelude.{◌≢◌, IfOk, IfErr};
 ghost use Rattle.transform.specs.declared.error.TransformError.{TransformError as Refusal};
 ghost use Rattle.qed_model.specs.Weave.SoundOptions.{AreSoundOptions};
@@ -14,7 +14,7 @@ use elf_types::ElfFile;
 use qed_model::{Options, RoleRow};
 use std::alloc::Global;
 
-/// The new code of a test, and what its words are for.
+/// The new code of a test, and the roles of its words.
 #[derive(Debug, Drop)]
 pub struct Explained {
     /// The test.
@@ -22,11 +22,11 @@ pub struct Explained {
     /// The address of the first word.
     pub base: u64,
     pub words: Vec<u32>,
-    /// Rows of words of one role, as they stand one behind the other from the first word on.
+    /// Rows of words of one role, one behind the other from the first word on.
     pub roles: Vec<RoleRow>,
 }
 
-/// The new code of a test with its roles, where there is an output of it.
+/// The new code of a test with its roles, if the test has an output.
 fn explain_made(alloc: Global, bytes: &[u8], options: &Options) -> Result<Explained, TransformError>
     requires { AreSoundOptions options.now }
     ensures done { IfOk result (IsExplained bytes.now options.now) }
@@ -45,9 +45,9 @@ fn explain_made(alloc: Global, bytes: &[u8], options: &Options) -> Result<Explai
     })
 }
 
-/// The new code of a test, and what its words are for. The options are sound.
+/// The new code of a test, and the roles of its words. The options are sound.
 ///
-/// Errors: those of `transform`, each where that has it.
+/// Errors: those of `transform`, under its conditions.
 pub fn explain(alloc: Global, bytes: &[u8], options: &Options) -> Result<Explained, TransformError>
     requires { AreSoundOptions options.now }
     ensures done { IfOk result (IsExplained bytes.now options.now) }

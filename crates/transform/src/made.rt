@@ -21,27 +21,27 @@ use qed_model::Plan;
 use qed_model::limits::{MAX_OUTPUT_BYTES, MAX_OUTPUT_SEGMENTS};
 use std::alloc::Global;
 
-/// An output before it is written, and what is told of it.
+/// An output before it is written, and its plan.
 #[derive(Debug, Drop)]
 pub(crate) struct Made {
     pub out: OutFile,
     pub plan: Plan,
 }
 
-/// How many bytes a file without symbols has with symbols that take so many. None where those are 2^128 or more.
+/// The size of a file if symbols that take `room` bytes are added. None if those are 2^128 or more.
 fn size_with(bare: &OutFile, room: u128) -> Option<u128>
     ensures { IfSome result (λ size. (symbols : List Symbol) → bare.now.symbols ≡ [] → room ≡ symbols_room symbols → size ≡ length (written (record bare.now { symbols = symbols }))) }
 {
-    // The section headers are last, at the next multiple of 8 behind the names of the sections. Without symbols these end
-    // so many bytes before it.
+    // The section headers are last, at the next multiple of 8 behind the names of the sections.
+    // Without symbols those names end `gap` bytes before it.
     let gap = 7 - (names_size(bare.sections.as_slice()) + 3) % 8;
     let size = file_size(bare).checked_add(room)?;
     let size = size.checked_add(7 - gap)?;
     Some(size / 8 * 8)
 }
 
-/// Tests the limits on the number of segments and of bytes, in this order, of a file without symbols as it is with symbols that
-/// take so many bytes. So no names are copied for a file that is too long, as far as its size is below 2^128.
+/// Tests the limits on segments and then on bytes, of a file without symbols, as if it had symbols
+/// of `room` bytes. So no names are copied for a file that is too long, if its size is below 2^128.
 fn check_bare(bare: &OutFile, room: u128) -> Result<(), TransformError>
     ensures { IfErr result (λ e. (symbols : List Symbol) → bare.now.symbols ≡ [] → room ≡ symbols_room symbols → Exceeds (record bare.now { symbols = symbols }) e) }
 {
@@ -55,7 +55,7 @@ fn check_bare(bare: &OutFile, room: u128) -> Result<(), TransformError>
     }
 }
 
-/// The output of a test with its blocks and its new code, and what is told of it.
+/// The output of a test with its blocks and its new code, and its plan.
 pub(crate) fn make(alloc: Global, cut: &CutTest, code: &Coded) -> Result<Made, TransformError>
     requires fit { AllFitMemory (load_segments cut.now.file.segments) }
     requires apart { AreApart (load_segments cut.now.file.segments) }

@@ -33,7 +33,7 @@ pieces_make (n ∷ ns) is e =
     ap (λ l. take n is ++ l) (pieces_make ns (drop n is) (omega (arith, w, d))) ∙ take-append-drop n is
 
 module _ (f : ElfFile) (code : IsKnownCode f) where
-  -- an end
+  -- the end of a block
   leaves_as : (a : ℕ) (i : Ins) → instruction_at f a ≡ Some i → (c : Class) → class_of i.kind ≡ c → is_end c ≡ true → FitsLeave c i
   leaves_as a i h class.End e n = tt
   leaves_as a i h class.Illegal e n = tt
@@ -86,7 +86,7 @@ module _ (f : ElfFile) (code : IsKnownCode f) where
         (all_fit bs (All-tail (IsWithin top) b bs w) (All-tail (IsBlockOf f o) (block_of b) (map block_of bs) h))
 
 -- ---- all blocks of a test
--- its words stand at code addresses
+-- the words of the test stand at code addresses
 pub words_below : (f : ElfFile) (top : ℕ) (code : List CodeWord) → AreCodeWords f code → ((a : ℕ) → is_code f a ≡ true → a + 4 ≤ top) → All (λ c. c.at + 4 ≤ top) code
 words_below f top code words reach k d lt =
     let c = get_or code k d in

@@ -1,5 +1,5 @@
--- All blocks of a file together have few instructions and pieces: the bodies of leaders share no code address, and any other block has
--- one instruction at most.
+-- All blocks of a file together have few instructions and pieces: the bodies of leaders share no code address, and any
+-- other block has at most one instruction.
 use Rattle.std.proofs.Common.{◌≡◌, inl, inr, ⊎_elim, ℕ, suc, ◌+◌, ◌-◌, ◌*◌, ◌/◌, ◌%◌, ◌<◌, ◌≤◌, true, List, [], ◌∷◌, length, ap, ◌∙◌, subst, arith}
 use Rattle.std.specs.Prelude.{All, ◌==◌}
 use Rattle.std.proofs.lemmas.Bool.{and_parts, eqb-true, cases_lt}
@@ -14,7 +14,7 @@ use Rattle.qed_model.proofs.Lemmas.{Ascend, ascend_of, any_first, EachPiece, Cut
 use Rattle.weave_core.proofs.Lemmas.{body_size}
 
 -- ---- lists of numbers
--- a list of which a member was taken: all above the member are left
+-- a list without one member: all above that member are left
 record Without (a : ℕ) (ns : List ℕ) : Type 0 where
   rest : List ℕ
   shorter : length ns ≡ suc (length rest)
@@ -36,7 +36,7 @@ few_pieces : (most : ℕ) (ps : List (List Ins)) → EachPiece most ps → lengt
 few_pieces most [] each = omega arith
 few_pieces most (p ∷ ps) each = let r = few_pieces most ps each.3 in omega (arith, r, each.1)
 
--- instructions and pieces, and 1 for the block
+-- the number of instructions and pieces, and 1 for each block
 abbrev pub weight : List Block → ℕ
 weight [] = 0
 weight (b ∷ bs) = body_length b.body + length b.body + 1 + weight bs
@@ -47,7 +47,7 @@ module _ (f : ElfFile) (shape : IsShapely f) (o : Options) (some : 1 ≤ o.inst_
   record HasFrom (low : ℕ) (ns : List ℕ) : Type 0 where
     all : (a : ℕ) → low ≤ a → is_code f a ≡ true → Among a ns
 
-  -- a list of which n were taken: it still has those from `low` on
+  -- a list without n of its members: all code addresses from `low` on are left
   record Behind (low n : ℕ) (ns : List ℕ) : Type 0 where
     rest : List ℕ
     fewer : n + length rest ≤ length ns
@@ -66,12 +66,12 @@ module _ (f : ElfFile) (shape : IsShapely f) (o : Options) (some : 1 ≤ o.inst_
       record { rest = y.rest; fewer = omega (arith, x.fewer, y.fewer); from = record { all = λ b m d. y.from.all b (omega (arith, m)) d } }
 
   -- ---- lists of blocks
-  -- they ascend from `low` on
+  -- the blocks ascend from `low` on
   abbrev Rising : ℕ → List Block → Type 0
   Rising low [] = Unit {0}
   Rising low (b ∷ bs) = (low ≤ b.start) × IsBlockOf f o b × Rising (b.start + 1) bs
 
-  -- their leaders stand from `low` on
+  -- the leaders of the blocks stand from `low` on
   abbrev LeadersFrom : ℕ → List Block → Type 0
   LeadersFrom low [] = Unit {0}
   LeadersFrom low (b ∷ bs) = (IsLeader f o b.start → low ≤ b.start) × LeadersFrom low bs
@@ -98,7 +98,7 @@ module _ (f : ElfFile) (shape : IsShapely f) (o : Options) (some : 1 ≤ o.inst_
   leaders_behind s n g inside low (b ∷ bs) lt up = (outside s n b.start g inside (omega (arith, lt, up.0)), leaders_behind s n g inside (b.start + 1) bs (omega (arith, lt, up.0)) up.2)
 
   -- ---- the weight of blocks
-  -- of a leader's block
+  -- the weight of a leader's block
   leader_pieces : (body : List Ins) (ps : List (List Ins)) → Cut o.inst_max body ps → body_length ps ≡ length body → length ps ≤ length body + 1
   leader_pieces body ps (Empty e p) same = omega (arith, ap length p)
   leader_pieces body ps (Filled n each) same = omega (arith, few_pieces o.inst_max ps each, same)
@@ -109,12 +109,12 @@ module _ (f : ElfFile) (shape : IsShapely f) (o : Options) (some : 1 ≤ o.inst_
       let few = leader_pieces l.body b.body (pieces_cut o.inst_max l.body b.body some l.pieces) same in
       omega (arith, same, few)
 
-  -- of any other
+  -- the weight of any other block
   other_weight : (i : Ins) (ps : List (List Ins)) (e : End) → IsShort i ps e → body_length ps + length ps + 1 ≤ 3
   other_weight i ps Falls s = let n = ap body_length s.1 in let m = ap length s.1 in omega (arith, n, m)
   other_weight i ps (Stops j) s = let n = ap body_length s.1 in let m = ap length s.1 in omega (arith, n, m)
 
-  -- of all, where one list has the addresses at which they begin, and another those of the bodies of leaders
+  -- the weight of all blocks; one list has the addresses at which they begin, another those of the bodies of leaders
   weight_below :
       (bs : List Block) (low l : ℕ) (xs ys : List ℕ) → Rising low bs → LeadersFrom l bs → HasFrom low xs → HasFrom l ys
       → weight bs ≤ 3 * length xs + 2 * length ys

@@ -1,4 +1,4 @@
--- The pieces of a body, one after the other.
+-- The pieces of a body, one after another.
 use Rattle.std.proofs.Common.{◌≡◌, ℕ, zero, suc, ◌+◌, ◌*◌, ◌^◌, ◌<◌, List, [], ◌∷◌, length, sum, take, drop, sym, ap, ◌∙◌, subst, arith}
 use Rattle.std.proofs.Common.{length-drop, get_or}
 use Rattle.std.proofs.lemmas.List.{length-take-le, drop_more}
@@ -7,7 +7,7 @@ use Rattle.qed_model.specs.Weave.Pieces.{divided}
 use Rattle.qed_model.specs.Weave.Sequences.{Ins, body_length}
 use Rattle.weave_core.specs.Blocks.{AllFit}
 
--- what is left of a body and of the lengths of its pieces, and what holds of these pieces and of where they stand
+-- the rest of a body and of the lengths of its pieces, and a fact on these pieces and their place
 pub record Left (P : List (List Ins) → ℕ → Type 0) (lengths : List ℕ) (body : List Ins) (at : ℕ) : Type 0 where
   pub fits : AllFit body
   pub whole : sum lengths ≡ length body
@@ -24,8 +24,8 @@ drop_fits zero is f = f
 drop_fits (suc n) [] f = tt
 drop_fits (suc n) (i ∷ is) f = drop_fits n is f.1
 
--- ---- one piece more
--- of the next length, where the body is split behind it
+-- ---- one more piece
+-- a piece of the next length; the body is split behind it
 module _
     (P : List (List Ins) → ℕ → Type 0) (items lengths : List ℕ) (k : ℕ) (body list more : List Ins) (at : ℕ)
     (same : items ≡ lengths) (less : k < length items) (front : list ≡ take (get_or items k 0) body) (back : more ≡ drop (get_or items k 0) body) (left : Left P (drop k lengths) body at) where
@@ -38,11 +38,11 @@ module _
   split : drop k lengths ≡ n ∷ ns
   split = subst (λ l. drop k l ≡ n ∷ drop (k + 1) l) same (drop_more items k 0 less)
 
-  -- it is the first of those that are left
+  -- the piece is the first of those that are left
   pub piece_split : P (list ∷ divided ns more) at
   piece_split = subst (λ ps. P ps at) (ap (λ l. divided l body) split ∙ ap (λ l. l ∷ divided ns (drop n body)) (sym front) ∙ ap (λ l. list ∷ divided ns l) (sym back)) left.has
 
-  -- and behind it the others are left
+  -- behind the piece the others are left
   pub left_on : (Q : List (List Ins) → ℕ → Type 0) → Q (divided ns more) (at + 4 * length list) → Left Q ns more (at + 4 * n)
   left_on Q q =
       let w : n + sum ns ≡ length body = sym (sum_by-cons (λ n. n) n ns) ∙ ap sum (sym split) ∙ left.whole in

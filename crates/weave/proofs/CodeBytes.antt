@@ -26,7 +26,7 @@ module _ (f : ElfFile) (o : Options) (sound : AreSoundOptions o) (loads : AreLoa
   few_words : (ns : List ℕ) → AreCodeAddresses f ns → length ns ≤ 1_048_576
   few_words ns all = ⊎_elim (λ x. absurd (admitted.words (length ns) (record { addresses = ns; all = all; count = refl; over = x }))) (λ x. x) (cases_lt 1_048_576 (length ns))
 
-  -- so all blocks together have few instructions and pieces
+  -- all blocks together have few instructions and pieces
   pub few : weight blocks ≤ 5_242_880
   few =
       let there = addresses_there f in
@@ -37,7 +37,7 @@ module _ (f : ElfFile) (o : Options) (sound : AreSoundOptions o) (loads : AreLoa
         most_some : 1 ≤ o.inst_min → 2 * o.inst_min ≤ o.inst_max + 1 → 1 ≤ o.inst_max
         most_some x y = omega (arith, x, y)
 
-  -- in either form
+  -- the bytes of either form
   form_bytes : (far : Bool) → sum_of_sizes far (items_in f o far blocks) < 2 ^ 64 - 1
   form_bytes far =
       let form = form_of f o far in

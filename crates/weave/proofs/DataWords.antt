@@ -11,19 +11,19 @@ use Rattle.tests.specs.Elf.Sound.{AreLoads}
 use Rattle.weave_core.specs.World.{GoodSpans, AllBelow}
 use Rattle.weave_core.proofs.Lemmas.{admitted_image, are_spans}
 
--- there is room for its data words in a half
+-- a half has room for its data words
 words_within : (base top : ℕ) (spans : List (ℕ × ℕ)) → GoodSpans base spans → AllBelow spans top → (8 * word_count spans ≤ top - base) × (length spans ≤ word_count spans)
 words_within base top [] g b = (omega arith, omega arith)
 words_within base top (r ∷ rs) g b =
     let rec = words_within (r.1 + 1) top rs g.1 b.1 in
     (omega (arith, rec.0, g.0.low, g.0.some, b.0), omega (arith, rec.1, g.0.some))
 
--- at most as many as a half of 536,870,912 bytes has words
+-- at most as many words as a half of 536,870,912 bytes has
 pub record AreFew (spans : List (ℕ × ℕ)) : Type 0 where
   pub words : word_count spans ≤ 67_108_864
   pub ranges : length spans ≤ 67_108_864
 
--- the distance of the halves
+-- the distance between the halves
 half_small : (image : List Segment) (half : Option ℕ) → IfSome half (λ h. (h % 4096 ≡ 0) × (4096 ≤ h) × (h ≤ 536_870_912)) → distance_of image ≤ 67_108_864 → half_of half image ≤ 536_870_912
 half_small image (Some d) h span = h.2
 half_small image None h span = omega (arith, span)

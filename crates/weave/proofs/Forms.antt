@@ -1,4 +1,4 @@
--- The new code of a test in either form: it can be linked where it fits, and what is linked is the new code.
+-- The new code of a test in either form: it can be linked if it fits, and what is linked is the new code.
 use Rattle.std.proofs.Common.{◌≡◌, ⊎_elim, ℕ, ◌+◌, ◌<◌, ◌≤◌, Bool, true, false, List, ◌++◌, length, map, refl, sym, ap, ◌∙◌, subst, arith}
 use Rattle.std.specs.Prelude.{nat_lt}
 use Rattle.std.specs.List.{list_all}
@@ -40,7 +40,7 @@ module _ (f : ElfFile) (o : Options) (t : Test) (blocks : List CodeBlock) (cut :
   abbrev bs : List Block
   bs = map block_of blocks
 
-  -- with the stub they are the items of the file
+  -- with the stub, the items are those of the file
   whole : (far : Bool) → items_of t o far blocks ++ stub ≡ items_in f o far bs
   whole far =
       ap (λ d. items_to_stub d t.entry (form_with (spans_of t.span) o far) bs ++ stub) cut.told.distance
@@ -56,7 +56,7 @@ module _ (f : ElfFile) (o : Options) (t : Test) (blocks : List CodeBlock) (cut :
   pub far_taken : (IsWithinForm false (items_of t o false blocks) → ⊥) → is_far_code f o bs ≡ true
   far_taken h = lt-ltb 1048576 _ (omega (arith, size false, h))
 
-  -- the code of the form that is taken
+  -- the bytes of the form that is taken
   code_bytes : (far : Bool) → is_far_code f o bs ≡ far → code_size f o bs ≡ sum_of_sizes far (items_of t o far blocks) + 4
   code_bytes far e = ap (λ b. sum_of_sizes b (items_in f o b bs)) e ∙ size far
 
@@ -82,7 +82,7 @@ module _ (f : ElfFile) (o : Options) (t : Test) (blocks : List CodeBlock) (cut :
       ∙ ap (λ p. placed far p (items_in f o far bs)) (sym place)
       ∙ ap (λ is. placed far (code_begin t) is) (sym (whole far))
 
-  -- it can be linked
+  -- the items can be linked
   pub links : (far : Bool) → is_far_code f o bs ≡ far → LinksWithin far (code_begin t) (items_of t o far blocks)
   links far e h =
       let b = cut.blocked in
@@ -93,7 +93,7 @@ module _ (f : ElfFile) (o : Options) (t : Test) (blocks : List CodeBlock) (cut :
         encoded = ap (λ is. list_all is_encoded is) (sym (instructions far e)) ∙ decoded words.0 (placed (is_far_code f o bs) (code_place o.half (image_of f)) (items_in f o (is_far_code f o bs) bs)) words.1.code.small words.1.code.code;
       }
 
-  -- and what is linked is the new code of the test
+  -- what is linked is the new code of the test
   pub code_of :
       (far : Bool) (w : Weaver) (linked : Linked) → form w ≡ form_with (spans_of t.span) o far → is_far_code f o bs ≡ far → IsWithinForm far (items_of t o far blocks)
       → IsLinked far (code_begin t) (items_of t o far blocks) linked → IsWoven (compared f o bs) f o t blocks (kind w) (parts (form w)) (λ b. Unit {0}) linked
@@ -108,7 +108,7 @@ module _ (f : ElfFile) (o : Options) (t : Test) (blocks : List CodeBlock) (cut :
     bounds = refl;
   }
 
-  -- why it is not
+  -- why the items are not linked
   pub cause_of : (far : Bool) (x : LinkError) → is_far_code f o bs ≡ far → HasLinkCause far (items_of t o far blocks) x → far ≡ true → HasCause (compared f o bs) x
   cause_of far (error.TooLarge n) e c is_far =
       let b = cut.blocked in

@@ -1,5 +1,5 @@
--- How many bytes the entries of blocks have at most, by their instructions and pieces, where there are at most 1024 visits behind a
--- piece and 67,108,864 data ranges.
+-- The most bytes of the entries of blocks, by their instructions and pieces, for at most 1024 visits behind a piece and
+-- 67,108,864 data ranges.
 use Rattle.std.proofs.Common.{◌≡◌, ℕ, zero, suc, ◌+◌, ◌*◌, ◌≤◌, Bool, true, false, cond, List, [], ◌∷◌, ◌++◌, length, refl, arith}
 use Rattle.std.specs.Prelude.{◌==◌, ◌%◌, ◌^◌, nat_lt, ℤ, pos, neg_ℤ}
 use Rattle.std.specs.List.{list_all}
@@ -21,7 +21,7 @@ use Rattle.machine.proofs.Lemmas.{each_kind}
 use Rattle.qed_model.proofs.Lemmas.{size-append}
 use Rattle.weave.proofs.BlockCount.{weight}
 
--- ---- the other mirror parts have seven words at most
+-- ---- other mirror parts have at most seven words
 parts_tested : (n : ℤ) → list_all (λ k. nat_lt (length (parts_of k n)) 8) kinds ≡ true
 parts_tested n = refl
 
@@ -99,7 +99,7 @@ module _ (far : Bool) where
   times_size zero is = omega arith
   times_size (suc n) is = omega (arith, size-append far is (times n is), times_size n is, suc-mul n (size is))
 
-  -- 1024 times 24 bytes and 20 for each range
+  -- a visit takes 24 bytes, and 20 for each range; there are 1024 at most
   pub visit_small : (n : ℕ) (rs : List (ℕ × ℕ)) → n ≤ 1024 → length rs ≤ 67_108_864 → size (visit n rs) ≤ 1_374_389_559_296
   visit_small n rs h k =
       let w = word_small rs in

@@ -1,11 +1,11 @@
--- Lists that were appended one after the other.
+-- Lists that were appended one after another.
 use Rattle.std.proofs.Common.{◌≡◌, List, ◌++◌, ap, ◌∙◌, append_assoc}
 use Rattle.qed_model.specs.declared.item.Item.{Item}
 
 pub append_both : (old mid new xs ys : List Item) → mid ≡ old ++ xs → new ≡ mid ++ ys → new ≡ old ++ (xs ++ ys)
 append_both old mid new xs ys e f = f ∙ ap (λ l. l ++ ys) e ∙ append_assoc old xs ys
 
--- five
+-- five lists
 pub append_five :
     (old a b c d new us vs ws xs ys : List Item) → a ≡ old ++ us → b ≡ a ++ vs → c ≡ b ++ ws → d ≡ c ++ xs → new ≡ d ++ ys
     → new ≡ old ++ (us ++ (vs ++ (ws ++ (xs ++ ys))))

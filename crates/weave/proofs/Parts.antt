@@ -17,13 +17,13 @@ use Rattle.weave.specs.Leaves.{is_end_as, before_parts, last_as, last_items}
 use Rattle.weave.proofs.BodyLeft.{whole_length}
 
 -- ---- a piece
--- those of an instruction, and of the others
+-- the parts of one instruction, and of the others
 pub each_split :
     (of : ℕ → Role) (part : Ins → ℕ → List Item) (is : List Ins) (k at : ℕ) (i : Ins) → k < length is → get_or is k i ≡ i
     → each_parts of part (drop k is) at ≡ (of at, part i at) ∷ each_parts of part (drop (k + 1) is) (at + 4)
 each_split of part is k at i less item = ap (λ l. each_parts of part l at) (drop_more is k i less ∙ ap (λ x. x ∷ drop (k + 1) is) item)
 
--- of passes with the same items
+-- the parts of passes with equal items
 pub each_alike :
     (of : ℕ → Role) (part other : Ins → ℕ → List Item) → ((i : Ins) (at : ℕ) → part i at ≡ other i at) → (is : List Ins) (at : ℕ) → each_parts of part is at ≡ each_parts of other is at
 each_alike of part other e [] at = refl

@@ -1,4 +1,4 @@
--- What the code in the form that is taken says of each test that it is made of.
+-- Facts on the code in the form that is taken, for each test that it is made of.
 use Rattle.std.proofs.Common.{◌≡◌, Bool, List, map}
 use Rattle.std.specs.Prelude.{Result, Ok, Err, IfOk, IfErr}
 use Rattle.elf_types.specs.declared.file.ElfFile.{ElfFile}

@@ -24,7 +24,7 @@ use Rattle.weave.specs.Sizes.{block_bytes, blocks_bytes, prologue_bytes, rows_of
 use Rattle.weave.proofs.Sizing.{block_is, prologue_is}
 
 -- ---- in a loop
--- the bytes so far and those of the rest are all, and below 2^64 - 1 bytes the rows
+-- the bytes so far and those of the rest are all; below 2^64 - 1 bytes so are the rows
 pub record RowsUpTo (s : Sizes) (first : ℕ) (all rest : List CodeBlock) (at : ℕ) (rows : List EntryRow) : Type 0 where
   pub fits : at < 2 ^ 64
   pub bytes : capped (at + blocks_bytes s rest) ≡ capped (first + blocks_bytes s all)

@@ -1,4 +1,4 @@
--- The items of new code have the bytes that are counted by blocks and instructions alone.
+-- The items of new code have the bytes that blocks and instructions alone determine.
 use Rattle.std.proofs.Common.{◌≡◌, ℕ, zero, suc, ◌+◌, ◌*◌, ◌^◌, Bool, true, false, cond, Option, Some, None, List, [], ◌∷◌, ◌++◌, length, map, sum, take, drop, refl, sym, ap, ◌∙◌, arith}
 use Rattle.std.proofs.Common.{length-drop}
 use Rattle.std.specs.Prelude.{All, ◌==◌, ◌%◌, pos, neg_ℤ}
@@ -167,7 +167,7 @@ pub prologue_is : (far : Bool) (d : ℕ) (rs : List Range) (entry : ℕ) → sum
 prologue_is far d [] entry = omega arith
 prologue_is far d (r ∷ rs) entry = omega arith
 
--- ---- all
+-- ---- the whole code
 pub code_is :
     (far : Bool) (o : Options) (t : Test) (s : Sizes) (blocks : List CodeBlock) → AreSizes s o far t.span → All FitsBlock blocks
     → sum_of_sizes far (items_of t o far blocks) ≡ prologue_bytes s.go t.span + blocks_bytes s blocks
@@ -181,7 +181,7 @@ code_is far o t s blocks are fit =
       blocks_are far o t.span s are blocks fit,
     )
 
--- the sum of the parts, each 2^64 - 1 at most, and with the stub
+-- the sum of the parts, each at most 2^64 - 1, with the stub
 pub total_is :
     (sum first entries a b c d : ℕ) → sum ≡ first + entries → a ≡ first → b ≡ capped entries → c ≡ capped (b + a) → d ≡ capped (c + 4) → d ≡ capped (sum + 4)
 total_is sum first entries a b c d e f g h k = omega (arith, e, f, g, h, k)

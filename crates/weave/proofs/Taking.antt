@@ -1,4 +1,4 @@
--- Parts that were handed on, one after the other.
+-- Parts that were handed on, one after another.
 use Rattle.std.proofs.Common.{ℕ, Bool, ◌≡◌, List, [], ◌∷◌, ◌++◌, sym, ap, ◌∙◌, subst, refl, append_assoc}
 use Rattle.std.proofs.lemmas.List.{append-nil}
 use Rattle.qed_model.specs.declared.item.Item.{Item}
@@ -12,7 +12,7 @@ takes_both :
 takes_both old mid new xs ys a b form done rest t =
     subst (λ l. new form l rest) (append_assoc done xs ys) (b form (done ++ xs) rest (a form done (ys ++ rest) (subst (old form done) (append_assoc xs ys rest) t)))
 
--- of some parts, those before the rest were handed on, and the rest comes next
+-- some parts before the rest were handed on, and the rest comes next
 pub record UpTo (old now : Bool × ℕ → List (Role × List Item) → List (Role × List Item) → Type 0) (items : List Item) (all rest : List (Role × List Item)) : Type 0 where
   pub done : List (Role × List Item)
   pub whole : all ≡ done ++ rest
@@ -23,7 +23,7 @@ pub record UpTo (old now : Bool × ℕ → List (Role × List Item) → List (Ro
 pub begun : (old : Bool × ℕ → List (Role × List Item) → List (Role × List Item) → Type 0) (items : List Item) (all : List (Role × List Item)) → Comes old items all → UpTo old old items all all
 begun old items all c = record { done = []; whole = refl; took = λ form done rest t. subst (λ l. old form l rest) (sym (append-nil done)) t; come = c.come; none = c.none }
 
--- what takes them was put beside no items
+-- before the first part: the sink as it was, and no items
 pub started :
     {S : Type 0} (took : S → Bool × ℕ → List (Role × List Item) → List (Role × List Item) → Type 0) (sink now : S) (items : List Item) (all : List (Role × List Item))
     → now ≡ sink → items ≡ [] → ComeNext (took sink) all → UpTo (took sink) (took now) items all all
@@ -36,7 +36,7 @@ started took sink now items all same none come =
 pub ended : (old now : Bool × ℕ → List (Role × List Item) → List (Role × List Item) → Type 0) (items : List Item) (all : List (Role × List Item)) → UpTo old now items all [] → Handed old now items all
 ended old now items all g = record { none = g.none; took = subst (Takes old now) (sym (append-nil g.done) ∙ sym g.whole) g.took }
 
--- what was put behind no items
+-- items put behind none are all items
 put_alone : (items put xs : List Item) → put ≡ items ++ xs → items ≡ [] → put ≡ xs
 put_alone items put xs e none = e ∙ ap (λ l. l ++ xs) none
 
@@ -54,7 +54,7 @@ module _ {old now : Bool × ℕ → List (Role × List Item) → List (Role × L
     none = h.none;
   }
 
-  -- the last of them
+  -- the last of the parts
   pub last : (xs : List (Role × List Item)) → UpTo old now items all xs → UpTo old now items all (xs ++ [])
   last xs g = subst (UpTo old now items all) (sym (append-nil xs)) g
 

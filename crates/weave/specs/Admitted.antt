@@ -10,8 +10,8 @@ use Rattle.block_split.specs.declared.block.CodeBlock.{CodeBlock}
 use Rattle.block_split.specs.Listed.{block_of, IsWithin}
 use Rattle.weave.specs.Fits.{FitsBlock}
 
--- the file is an admitted test with these words of its code, and these are its blocks, whose bodies are in pieces and go no further
--- than the words
+-- the file is an admitted test with these words of its code, and these are its blocks; their bodies are in pieces and
+-- end where the words end, at the latest
 pub record IsTestInBlocks (f : ElfFile) (o : Options) (code : List CodeWord) (blocks : List CodeBlock) : Type 0 where
   pub file : IsSound f
   pub sound : AreSoundOptions o

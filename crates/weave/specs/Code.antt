@@ -25,17 +25,17 @@ use Rattle.weave.specs.Kind.{CodeKind}
 abbrev pub items_of : Test → Options → Bool → List CodeBlock → List Item
 items_of t o far blocks = items_to_stub t.distance t.entry (form_with (spans_of t.span) o far) (map block_of blocks)
 
--- where the code begins
+-- the address where the code begins
 abbrev pub code_begin : Test → ℕ
 code_begin t = t.base + 3 * t.distance
 
 -- ---- of a test
--- the file is an admitted test, of which this is told, and these are its blocks
+-- the file is admitted as this test, and these are its blocks
 pub record IsCut (f : ElfFile) (o : Options) (t : Test) (blocks : List CodeBlock) : Type 0 where
   pub told : IsTestOf f o t
   pub blocked : IsTestInBlocks f o t.code blocks
 
--- these are the words and entries of this new code, which is within its limit; what made them is of its kind, for these blocks, and has its parts
+-- the words and entries of this new code, within its limit; their maker has its kind and parts, and accepts the blocks
 pub record IsWoven (c : NewCode) (f : ElfFile) (o : Options) (t : Test) (blocks : List CodeBlock) (kind : CodeKind) (made : Parts) (is_for : CodeBlock → Type 0) (linked : Linked) : Type 0 where
   pub code : IsCodeFor c f o linked.words.items
   pub entries : linked.entries.items ≡ entries_in c f o
@@ -46,7 +46,7 @@ pub record IsWoven (c : NewCode) (f : ElfFile) (o : Options) (t : Test) (blocks 
   pub table : (kind.table || has_table (map block_of blocks)) ≡ c.table
   pub bounds : kind.bounds (shape_of f o c.far) ≡ c.bounds
 
--- the new code has so many bytes, which are too many
+-- the new code has n bytes, which is too many
 abbrev pub HasCause : NewCode → LinkError → Type 0
 HasCause c (error.TooLarge n) = (n ≡ size_of_code c) × (limit_of c.limit < n)
 HasCause c error.Memory = Unit {0}

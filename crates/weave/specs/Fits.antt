@@ -8,7 +8,7 @@ use Rattle.rv_isa.specs.Kind.{class_of}
 use Rattle.weave_core.specs.Blocks.{AllFit}
 use Rattle.block_split.specs.declared.block.CodeBlock.{CodeBlock}
 
--- an instruction that ends a block, which names no register above x13
+-- an instruction that ends a block and names no register above x13
 abbrev pub FitsLeave : Class → Ins → Type 0
 FitsLeave class.Jump i = i.rd ≤ LAST_ORIGINAL
 FitsLeave class.Branch i = (i.rs1 ≤ LAST_ORIGINAL) × (i.rs2 ≤ LAST_ORIGINAL)
@@ -17,12 +17,12 @@ FitsLeave class.End i = Unit {0}
 FitsLeave class.Illegal i = Unit {0}
 FitsLeave _ i = ⊥
 
--- such an instruction, or none
+-- an end that names no register above x13, or none
 abbrev pub FitsEnd : Option Ins → Type 0
 FitsEnd None = Unit {0}
 FitsEnd (Some i) = FitsLeave (class_of i.kind) i
 
--- a block whose body can be doubled and is all in pieces, with such an end, and which stands below 2^64
+-- a block below 2^64; its body can be doubled and is all in pieces, and its end names no register above x13
 pub record FitsBlock (b : CodeBlock) : Type 0 where
   pub body : AllFit b.body
   pub end : FitsEnd b.end

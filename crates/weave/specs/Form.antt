@@ -1,4 +1,4 @@
--- The form of the code that a weaver makes, and what it makes of blocks.
+-- The form of the code that a weaver makes, and its code for blocks.
 use Rattle.std.specs.Prelude.{ℕ, Bool, false, List, ◌++◌, is_some}
 use Rattle.tests.specs.declared.options.Options.{Options}
 use Rattle.qed_model.specs.declared.item.Item.{Item}
@@ -14,7 +14,7 @@ use Rattle.weave.specs.Kind.{CodeKind}
 abbrev pub form_with : List (ℕ × ℕ) → Options → Bool → Form
 form_with spans o far = record { spans = spans; round = o.round; far = far; sweep = o.sweep; mirror = mirror_of o.diverse; cost = cost_of o.diverse }
 
--- that of a weaver
+-- the form of the code that a weaver makes
 abbrev pub form : Weaver → Form
 form w = record {
   spans = spans_of w.pieces.second.second.pass.second.span;
@@ -32,6 +32,6 @@ kind w = record { far = w.far; table = false; bounds = bounds_of }
 abbrev pub code_to_stub : Sequences → ℕ → ℕ → List Block → List Item
 code_to_stub s d entry blocks = s.first d entry ++ entries_of s blocks
 
--- that of a form
+-- the new code of a form up to the stub
 abbrev pub items_to_stub : ℕ → ℕ → Form → List Block → List Item
 items_to_stub d entry form blocks = code_to_stub (sequences form) d entry blocks

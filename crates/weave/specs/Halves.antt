@@ -1,4 +1,4 @@
--- What the items of an instruction of a piece are for.
+-- The roles of the items of an instruction of a piece.
 use Rattle.std.specs.Prelude.{ℕ}
 use Rattle.qed_model.specs.declared.role.Role.{Role}
 use Rattle.qed_model.specs.declared.role.Role.TheVariants as role

@@ -1,4 +1,4 @@
--- Parts that are to be handed on, and that were, where the items of no part are gathered.
+-- Parts to be handed on, and parts that were, while no items are gathered.
 use Rattle.std.specs.Prelude.{◌≡◌, ℕ, Bool, List, []}
 use Rattle.qed_model.specs.declared.item.Item.{Item}
 use Rattle.qed_model.specs.declared.role.Role.{Role}

@@ -24,13 +24,13 @@ for_piece is at f = (for_originals next_at is at f, for_mirrors next_at is at f)
 abbrev pub piece_items : (Ins → ℕ → List Item) → ℕ → List (ℕ × ℕ) → List Ins → ℕ → List Item
 piece_items mirror round spans is at = parts_items next_at mirror (compare ++ visit round spans) is at
 
--- of equal rounds and ranges
+-- equal rounds and ranges give equal items
 pub piece_same :
     (mirror : Ins → ℕ → List Item) {m n : ℕ} {ss ts : List (ℕ × ℕ)} → m ≡ n → ss ≡ ts → (is : List Ins) (at : ℕ)
     → piece_items mirror m ss is at ≡ piece_items mirror n ts is at
 piece_same mirror {m} {n} {ss} {ts} r s is at = ap (λ k. piece_items mirror k ss is at) r ∙ ap (λ l. piece_items mirror n l is at) s
 
--- they are those of the code sequences
+-- the items of the passes are those of the code sequences
 pub piece_is :
     (mirror : Ins → ℕ → List Item) (form : Form) (is : List Ins) (at : ℕ) → form.mirror ≡ mirror → at + 4 * length is < 2 ^ 64
     → piece_items mirror form.round form.spans is at ≡ piece form is at

@@ -22,7 +22,7 @@ guard_bytes r = cond (r == 0) 0 8
 abbrev pub guards_bytes : Ins → ℕ
 guards_bytes i = guard_bytes i.rs1 + cond (i.rs2 == i.rs1) 0 (guard_bytes i.rs2)
 
--- its original part
+-- the original part of an instruction
 abbrev pub original_as_bytes : Class → Ins → ℕ
 original_as_bytes class.Load i = guard_bytes i.rs1 + 4
 original_as_bytes class.Store i = guards_bytes i + 4
@@ -31,7 +31,7 @@ original_as_bytes _ i = 4
 abbrev pub original_bytes : Ins → ℕ
 original_bytes i = cond (is_auipc i.kind) 8 (original_as_bytes (class_of i.kind) i)
 
--- its mirror part, of the same kind and of others
+-- the mirror part of an instruction, of its kind and of others
 abbrev pub mirror_as_bytes : Class → ℕ
 mirror_as_bytes class.Load = 8
 mirror_as_bytes class.Store = 8
@@ -54,7 +54,7 @@ body_bytes other [] = 0
 body_bytes other (i ∷ is) = original_bytes i + mirror_bytes other i + body_bytes other is
 
 -- ---- what the sizes of blocks depend on besides the blocks
--- a visited data word, and the comparisons before an ECALL
+-- the visit of a data word, and the comparisons before an ECALL
 abbrev pub word_bytes : List Range → ℕ
 word_bytes [] = 0
 word_bytes (r ∷ rs) = 24 + 20 * length (r ∷ rs)
@@ -73,7 +73,7 @@ pub record AreSizes (s : Sizes) (o : Options) (far : Bool) (span : List Range) :
 abbrev pub links_bytes : Ins → ℕ
 links_bytes i = cond (i.rd == 0) 0 16
 
--- the leave
+-- the leave of a block
 abbrev pub leave_as_bytes : Sizes → Class → Ins → ℕ
 leave_as_bytes s class.End i = s.end + 4
 leave_as_bytes s class.Jump i = links_bytes i + 8 + s.go
@@ -93,7 +93,7 @@ abbrev pub blocks_bytes : Sizes → List CodeBlock → ℕ
 blocks_bytes s [] = 0
 blocks_bytes s (b ∷ bs) = block_bytes s b + blocks_bytes s bs
 
--- the marks of blocks, of which the first stands at an address
+-- the marks of blocks; the first block stands at `at`
 abbrev pub rows_of : Sizes → ℕ → List CodeBlock → List EntryRow
 rows_of s at [] = []
 rows_of s at (b ∷ bs) = record { input = b.start; output = at } ∷ rows_of s (at + block_bytes s b) bs

@@ -9,7 +9,7 @@ use Rattle.qed_model.specs.Weave.Woven.{items_in}
 use Rattle.plc_rounds.specs.Spans.{spans_of}
 use Rattle.weave.specs.Form.{form_with, items_to_stub}
 
--- with the data ranges, the distance and the entry of a file, and the stub behind it, it is the defined one
+-- with the data ranges, the distance and the entry of a file, and the stub behind it, the new code is the defined one
 abbrev pub ItemsAreWhole : Type 0
 ItemsAreWhole =
     (f : ElfFile) (o : Options) (far : Bool) (span : List Range) (blocks : List Block) → map range_of span ≡ data_ranges (image_of f)

@@ -1,4 +1,4 @@
-//! The new code, in the near form where that fits, else in the far form.
+//! The new code, in the near form if that fits, else in the far form.
 ghost use Rattle.std.specs.Prelude.{◌≡◌, ◌+◌, ◌*◌, ◌^◌, ◌<◌, ◌≤◌, ℕ, [], All, IfOk, IfErr, length, map};
 ghost use Rattle.elf_types.specs.declared.file.ElfFile.{ElfFile};
 ghost use Rattle.block_split.specs.Listed.{block_of};
@@ -42,7 +42,7 @@ pub fn counted<W: Weaving>(
     Ok(count)
 }
 
-/// Writes the words of the items of a test, which are laid out.
+/// Writes the words of a test's items into their layout.
 ///
 /// Errors: want of memory.
 pub fn written<W: Weaving>(
@@ -62,8 +62,8 @@ pub fn written<W: Weaving>(
     Ok(layout.finish())
 }
 
-/// What the words of new code are for: how many bytes have which role, as they stand one behind the other from the first word
-/// on.
+/// The roles of the words of new code: how many bytes have which role, one row behind the other
+/// from the first word on.
 ///
 /// Errors: want of memory.
 pub fn roles<W: Weaving>(
@@ -83,7 +83,7 @@ pub fn roles<W: Weaving>(
     Ok(rows)
 }
 
-/// Takes the memory for the code, which is counted.
+/// Takes the memory for counted code.
 fn laid_out(
     alloc: Global,
     test: &Test,
@@ -106,7 +106,7 @@ fn laid_out(
     lay(alloc, count, test.base + 3 * test.distance)
 }
 
-/// The new code of a test: its words and entries, and what made them.
+/// The new code of a test: its words and entries, and its maker.
 #[derive(Drop)]
 pub struct Woven<W> {
     pub weaver: W,
@@ -137,7 +137,7 @@ fn code_in(
     Ok(Woven { weaver, linked })
 }
 
-/// Whether the near form has more bytes than it may have.
+/// Whether the near form has more bytes than allowed.
 fn is_far(test: &Test, options: &Options, blocks: &[CodeBlock]) -> bool
     requires { (f : ElfFile) × IsCut f options.now test.now blocks.now }
     ensures { (f : ElfFile) → IsCut f options.now test.now blocks.now → is_far_code f options.now (map block_of blocks.now) ≡ result }
@@ -145,10 +145,10 @@ fn is_far(test: &Test, options: &Options, blocks: &[CodeBlock]) -> bool
     code_size(test, options, false, blocks) > MAX_NEAR_CODE_BYTES
 }
 
-/// The new code of a test that was admitted, in the near form where that has at most 1,048,576 bytes, else in the far form. The
-/// bytes are counted before any item is made.
+/// The new code of an admitted test, in the near form if that has at most 1,048,576 bytes, else in
+/// the far form. The bytes are counted before any item is made.
 ///
-/// Errors: `TooLarge` where the far form is taken and has more than 67,108,864 bytes: how many; want of memory.
+/// Errors: `TooLarge` if the far form is taken and has more than 67,108,864 bytes: their number; want of memory.
 pub fn woven_code(
     alloc: Global,
     test: &Test,

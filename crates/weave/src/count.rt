@@ -11,7 +11,7 @@ use qed_model::{EntryRow, Options, Test};
 use relinker::Count;
 use std::alloc::{AllocError, Global};
 
-/// Where the marks of blocks stand, of which the first stands at `first`, and where the last block ends, 2^64 - 1 at most.
+/// Where the marks of blocks stand, the first at `first`, and where the last block ends; at most 2^64 - 1.
 #[tactic(auto, using(crate::proofs::RowLaws::rows_none, crate::proofs::RowLaws::rows_all))]
 fn rows(
     alloc: Global,

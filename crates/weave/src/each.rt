@@ -1,4 +1,4 @@
-//! The instructions of a piece, one after the other.
+//! The instructions of a piece, one after another.
 ghost use Rattle.std.specs.Prelude.{◌≡◌, ◌+◌, ◌*◌, ◌^◌, ◌<◌, ◌++◌, ℕ, OnOk, length};
 ghost use Rattle.rv_isa.specs.declared.ins.Ins.{Ins};
 ghost use Rattle.qed_model.specs.declared.role.Role.TheVariants as role;
@@ -27,7 +27,7 @@ enum Half {
 }
 
 impl Half {
-    /// What the items of the instruction at an address are for.
+    /// The role of the items of the instruction at an address.
     fn role(self, at: u64) -> Role
         ensures { result ≡ half_role self at }
     {
@@ -38,7 +38,7 @@ impl Half {
     }
 }
 
-/// Hands on what a pass emits for each instruction of a list, a part each. The first instruction stands at an input address.
+/// Hands on what a pass emits for each instruction of a list, a part each. The first stands at an input address.
 ///
 /// Errors: want of memory.
 #[tactic(auto, using(crate::proofs::Taking::begun, crate::proofs::Taking::ended))]
@@ -64,7 +64,7 @@ fn weave_each<P: Pass, S: ItemSink>(
     Ok(())
 }
 
-/// Hands on the original parts of a list, and behind them its mirror parts. The first instruction stands at an input address.
+/// Hands on the original parts of a list, then its mirror parts. The first instruction stands at an input address.
 ///
 /// Errors: want of memory.
 pub fn weave_halves<S: ItemSink>(

@@ -1,4 +1,4 @@
-//! How a block is left.
+//! The leave of a block.
 ghost use Rattle.std.specs.Prelude.{◌≡◌, ◌+◌, ◌*◌, ◌++◌, OnOk, length};
 ghost use Rattle.rv_isa.specs.Kind.{class_of};
 ghost use Rattle.qed_model.specs.Weave.Sequences.{before_end};
@@ -27,7 +27,7 @@ pub fn is_end(end: &Option<Ins>) -> bool
     }
 }
 
-/// The input address at which a block has its end, or to which it falls.
+/// The input address of a block's end, or to which the block falls through.
 pub fn end_address(block: &CodeBlock) -> u64
     requires { FitsBlock block.now }
     ensures { result ≡ block.now.start + 4 * length block.now.body }
@@ -36,7 +36,7 @@ pub fn end_address(block: &CodeBlock) -> u64
 }
 
 impl Weaver {
-    /// Appends what the sweep compares, if it is asked for.
+    /// Appends the comparisons of the sweep, if it is asked for.
     fn put_swept(&self, out: &mut Emit) -> Result<(), AllocError>
         ensures { OnOk result (out.new ≡ out.old ++ before_end (form self.now)) }
     {
@@ -46,7 +46,7 @@ impl Weaver {
         Ok(())
     }
 
-    /// Hands on what stands before the end of a block that is an ECALL.
+    /// Hands on what stands before an ECALL that ends a block.
     pub(crate) fn before_end<S: ItemSink>(
         &self,
         end: &Option<Ins>,
@@ -75,8 +75,8 @@ impl Weaver {
         Ok(())
     }
 
-    /// Appends the leave of a block whose end stands at an input address, or which falls to that address, without what stands
-    /// before an ECALL.
+    /// Appends the leave of a block whose end stands at an input address, or which falls through to
+    /// it, without what stands before an ECALL.
     pub(crate) fn leave_at(
         &self,
         end: &Option<Ins>,

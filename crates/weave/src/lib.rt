@@ -1,5 +1,5 @@
-//! The new code of a test, part by part: the prologue, and of each block its entry, its pieces and its leave, each made by the
-//! passes and handed on, with what it is for, before the next. Its bytes and marks are counted by its blocks, and then its words are written.
+//! The new code of a test, part by part: the prologue, then each block's entry, pieces and leave. Passes make a part,
+//! which is handed on with its role before the next. Blocks alone give its bytes and marks; then its words are written.
 #![tactic(auto)]
 
 ghost use Rattle.weave.specs.Admitted.{BlocksFit};
@@ -34,7 +34,7 @@ pub fn blocks_fit()
     ensures { BlocksFit }
 {}
 
-/// With the data ranges, the distance and the entry of a file, what is handed on is its new code, but for the stub.
+/// With the data ranges, the distance and the entry of a file, the parts handed on are its new code, except the stub.
 pub fn items_are_whole()
     ensures { ItemsAreWhole }
 {}

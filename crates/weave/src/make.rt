@@ -9,7 +9,7 @@ use end_sweep::Sweep;
 use qed_model::{Options, Ranges};
 use std::alloc::{AllocError, Global};
 
-/// The same ranges once more.
+/// A copy of data ranges.
 ///
 /// Errors: want of memory.
 pub fn copied(alloc: Global, span: &Ranges) -> Result<Ranges, AllocError>

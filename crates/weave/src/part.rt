@@ -27,7 +27,7 @@ impl<S: ItemSink> PartSink<S> {
         }
     }
 
-    /// Ends a part: hands on its items, which are for something.
+    /// Ends a part: hands on its items, with their role.
     ///
     /// Errors: want of memory.
     pub fn end(&mut self, role: Role) -> Result<(), AllocError>

@@ -20,7 +20,7 @@ use std::alloc::{AllocError, Global};
 /// The passes of a piece.
 pub type Piece = Then<Each<Guarded<Original>>, Then<Each<Mirror>, Once<Then<CompareAll, Visit>>>>;
 
-/// The passes of a piece, whose mirror parts may be of other kinds, behind which `round` data words of the ranges are visited.
+/// The passes of a piece, whose mirror parts may be of other kinds; behind it `round` data words are visited.
 pub fn piece(diverse: bool, round: u64, span: Ranges) -> Piece
     ensures diverse { result.second.first.pass.diverse ≡ diverse }
     ensures round { result.second.second.pass.second.round ≡ round }

@@ -1,4 +1,4 @@
-//! What stands before the entries.
+//! The words before the entries.
 ghost use Rattle.std.specs.Prelude.{◌≡◌, ◌+◌, ◌^◌, ◌<◌, ◌≤◌, [], ◌∷◌, ◌++◌, OnOk, pos};
 ghost use Rattle.rv_isa.specs.declared.profile.TheConstants.{DISTANCE};
 ghost use Rattle.rv_isa.specs.declared.kind.Kind.TheVariants.{Lui};
@@ -15,9 +15,9 @@ use rv_isa::profile::{CURSOR, DISTANCE, ORIGINALS, PAIR_DISTANCE};
 use rv_isa::{Ins, Kind, register};
 use std::alloc::AllocError;
 
-/// Appends what sets so many registers from x`first` on to 0.
+/// Appends what sets `count` registers from x`first` on to 0.
 ///
-/// Errors: want of memory. What is appended then is not told.
+/// Errors: want of memory; what is appended then is left open.
 pub fn put_zeros(first: u8, count: u8, out: &mut Emit) -> Result<(), AllocError>
     requires { first + count ≤ 32 }
     ensures { OnOk result (out.new ≡ out.old ++ zero_from first count) }
@@ -29,7 +29,7 @@ pub fn put_zeros(first: u8, count: u8, out: &mut Emit) -> Result<(), AllocError>
     Ok(())
 }
 
-/// Sets x14 to the distance of the halves.
+/// Sets x14 to the distance between the halves.
 fn put_half(distance: u64, out: &mut Emit) -> Result<(), AllocError>
     requires { distance < 2 ^ 63 }
     ensures { OnOk result (out.new ≡ out.old ++ Item.Plain (ins Lui DISTANCE 0 0 (pos distance)) ∷ []) }
@@ -46,7 +46,7 @@ fn put_half(distance: u64, out: &mut Emit) -> Result<(), AllocError>
     Ok(())
 }
 
-/// Sets the cursor to the first data word, where there is one.
+/// Sets the cursor to the first data word, if there is one.
 fn put_cursor(span: &[Range], out: &mut Emit) -> Result<(), AllocError>
     ensures { OnOk result (out.new ≡ out.old ++ cursor (spans_of span.now)) }
 {
@@ -70,8 +70,8 @@ impl Weaver {
         Ok(())
     }
 
-    /// Appends what runs first: all registers of both halves are 0, x14 is the distance of the halves, the cursor is at the first
-    /// data word, and the test begins at its entry.
+    /// Appends what runs first: it sets all registers of both halves to 0, x14 to the distance between the
+    /// halves, and the cursor to the first data word. Then the test begins at its entry.
     pub(crate) fn prologue(
         &self,
         distance: u64,

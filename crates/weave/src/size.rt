@@ -65,7 +65,7 @@ fn mirrored_size(ins: &Ins) -> u64
     }
 }
 
-/// The bytes of the mirror part of other kinds, or of the same where there is no other.
+/// The bytes of the mirror part of other kinds, or of the instruction's own if there are none.
 fn diverse_size(ins: &Ins) -> u64
     ensures value { result ≡ diverse_bytes (parts_of ins.now.kind ins.now.imm) ins.now }
     ensures bound { result ≤ 28 }
@@ -90,7 +90,7 @@ fn mirror_size(ins: &Ins, diverse: bool) -> u64
     }
 }
 
-/// The bytes of both parts of all instructions of a body, 2^64 - 1 at most.
+/// The bytes of both parts of all instructions of a body; at most 2^64 - 1.
 fn body_size(body: &[Ins], diverse: bool) -> u64
     ensures { result ≡ capped (body_bytes diverse body.now) }
 {
@@ -108,13 +108,13 @@ pub(crate) struct Sizes {
     pub(crate) diverse: bool,
     /// The bytes of a jump to an entry.
     pub(crate) go: u64,
-    /// Those of the comparison and the visits behind the parts of a piece.
+    /// The bytes of the comparison and the visits behind the parts of a piece.
     pub(crate) piece: u64,
-    /// Those of what stands before an ECALL.
+    /// The bytes before an ECALL.
     pub(crate) end: u64,
 }
 
-/// The bytes of a visited data word.
+/// The bytes of the visit of a data word.
 fn word_size(span: &[Range]) -> u64
     requires { length span.now ≤ 67_108_864 }
     ensures value { result ≡ word_bytes span.now }
@@ -161,7 +161,7 @@ fn links_size(ins: &Ins) -> u64
     if ins.rd.number() == 0 { 0 } else { 16 }
 }
 
-/// The bytes of the leave of a block, 2^64 - 1 at most.
+/// The bytes of the leave of a block; at most 2^64 - 1.
 fn leave_size(sizes: &Sizes, end: &Option<Ins>) -> u64
     requires { sizes.now.go ≤ 8 }
     ensures { result ≡ capped (leave_bytes sizes.now end.now) }
@@ -178,7 +178,7 @@ fn leave_size(sizes: &Sizes, end: &Option<Ins>) -> u64
     }
 }
 
-/// The bytes of a block, 2^64 - 1 at most.
+/// The bytes of a block; at most 2^64 - 1.
 pub(crate) fn block_size(sizes: &Sizes, block: &CodeBlock) -> u64
     requires { sizes.now.go ≤ 8 }
     ensures { result ≡ capped (block_bytes sizes.now block.now) }
@@ -190,7 +190,7 @@ pub(crate) fn block_size(sizes: &Sizes, block: &CodeBlock) -> u64
     pieces.saturating_add(leave).saturating_add(16)
 }
 
-/// The bytes of blocks, 2^64 - 1 at most.
+/// The bytes of blocks; at most 2^64 - 1.
 fn blocks_size(sizes: &Sizes, blocks: &[CodeBlock]) -> u64
     requires { sizes.now.go ≤ 8 }
     ensures { result ≡ capped (blocks_bytes sizes.now blocks.now) }
@@ -211,7 +211,7 @@ pub(crate) fn prologue_size(span: &[Range], go: u64) -> u64
     116 + cursor + go
 }
 
-/// The bytes of the new code in one form, with the stub, 2^64 - 1 at most. It takes time with the instructions, and no memory.
+/// The bytes of the new code in one form, with the stub; at most 2^64 - 1. Takes time per instruction, no memory.
 pub(crate) fn code_size(test: &Test, options: &Options, far: bool, blocks: &[CodeBlock]) -> u64
     requires visits { options.now.round ≤ 1024 }
     requires ranges { length test.now.span ≤ 67_108_864 }

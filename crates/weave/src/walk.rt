@@ -1,4 +1,4 @@
-//! The new code, one part after the other.
+//! The new code, one part after another.
 ghost use Rattle.std.specs.Prelude.{◌^◌, ◌<◌, All, IfOk, OnOk, map};
 ghost use Rattle.qed_model.specs.Weave.Parts.{pieces_parts, block_parts, entries_parts, parts_to_stub};
 ghost use Rattle.qed_model.specs.Weave.Pieces.{divided};
@@ -52,7 +52,7 @@ fn weave_block<W: Weaving, S: ItemSink>(
     Ok(())
 }
 
-/// Hands on the entries of the blocks, one after the other.
+/// Hands on the entries of the blocks, one after another.
 #[tactic(auto, using(crate::proofs::Taking::begun, crate::proofs::Taking::ended))]
 fn weave_blocks<W: Weaving, S: ItemSink>(
     weaver: &W,
@@ -70,8 +70,8 @@ fn weave_blocks<W: Weaving, S: ItemSink>(
     Ok(())
 }
 
-/// Makes the new code of a test with these blocks, all but the stub behind it, and hands it on part by part. It takes time with
-/// the items, and memory for one part at a time.
+/// Makes the new code of a test with these blocks, except the stub behind it, and hands it on part
+/// by part. It takes time per item, and memory for one part at a time.
 ///
 /// Errors: want of memory.
 pub fn weave<W: Weaving, S: ItemSink + Drop>(

@@ -14,9 +14,9 @@ use relinker::ItemSink;
 use rv_isa::Ins;
 use std::alloc::AllocError;
 
-/// Makes the parts of new code, and hands each on with what it is for.
+/// Makes the parts of new code, and hands each on with its role.
 ///
-/// Errors: want of memory. What was handed on then is not told.
+/// Errors: want of memory; what is handed on then is left open.
 pub trait Weaving {
     ghost use Rattle.machine.specs.declared.limits.Limit.{Limit};
     ghost use Rattle.qed_model.specs.Weave.Code.{Sequences};
@@ -30,13 +30,13 @@ pub trait Weaving {
     // The sequences that it makes.
     ghost code: { Self → Sequences };
 
-    // Their parts.
+    // The parts of these sequences.
     ghost parts: { Self → Parts };
 
-    // What its code is besides.
+    // What its code has besides items.
     ghost kind: { Self → CodeKind };
 
-    // The blocks that it is for, of those that fit.
+    // The blocks that it accepts, among those that fit.
     ghost is_for: { Self → CodeBlock → Type 0 };
 
     /// The limit on the bytes of the code.
@@ -51,12 +51,12 @@ pub trait Weaving {
     fn table(&self) -> bool
         ensures { result ≡ (kind self.now).table };
 
-    /// The bounds of the output, in steps. None exactly where one of them is 2^64 or above.
+    /// The bounds of the output, in steps. None exactly if one of them is 2^64 or above.
     fn bounds(&self, shape: &Shape) -> Option<Bounds>
         requires { 1 ≤ shape.now.round }
         ensures { SomeIff result (AreSmall ((kind self.now).bounds shape.now)) ((kind self.now).bounds shape.now) };
 
-    /// Hands on what runs first, with the distance of the halves in bytes and the input address of the test's entry.
+    /// Hands on what runs first; `distance` is between the halves, `entry` the input address of the test's entry.
     fn first<S: ItemSink>(
         &self,
         distance: u64,

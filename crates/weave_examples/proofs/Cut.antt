@@ -1,4 +1,4 @@
--- The cut keeps the instructions, and all its parts are runs: each list of at most so many instructions is one piece of the leaner weave.
+-- The cut keeps the instructions and gives only runs: at most `most` instructions are one piece of the leaner weave.
 use Rattle.std.proofs.Common.{◌≡◌, Bool, true, false, cond, List, [], ◌∷◌, ◌++◌, refl, ap, ◌∙◌}
 use Rattle.std.proofs.lemmas.Bool.{and_from, and_parts}
 use Rattle.machine.specs.Step.{Ins, class_of}

@@ -1,4 +1,4 @@
--- All premises of the promises are met by a known test, and its numbers.
+-- A known test meets all premises of the promises, and has these numbers.
 use Rattle.std.proofs.Common.{◌≡◌, ℕ, zero, suc, ◌+◌, ◌*◌, Bool, List, [], ◌∷◌, ◌++◌, length, take, drop, arith, ◌<◌, inl, inr, true, false, refl, ap, ◌∙◌, sym}
 use Rattle.std.specs.Prelude.{nat_lt, slice_index}
 use Rattle.tests.specs.Admission.DataRanges.{data_ranges}
@@ -28,7 +28,7 @@ use Rattle.weave_core.proofs.Lemmas.{tests_have_words, tests_kept, tests_landed}
 use Rattle.lockstep.proofs.Lemmas.{tests_caught, tests_clean}
 use Rattle.weave_examples.specs.FarTest.{far_bytes, far_test, far_options, far_code, far_blocks, far_plan, FarPromised, next, lui_8, ld_5, lui_9, sd_5, ld_6, mul, sub, call, ecall, add, jalr}
 
--- ---- how many bytes new code has whose pieces have many visits: the visits are counted, and not written out
+-- ---- how many bytes new code has whose pieces have many visits: the visits are counted, not written out
 module _ (far : Bool) (form : Form) where
   -- the bytes of one visit
   abbrev one_visit : ℕ
@@ -75,7 +75,7 @@ module _ (far : Bool) (form : Form) where
       let rest = entries_size bs in
       omega (arith, a, c, d, e, rest)
 
--- all of the new code
+-- all bytes of the new code
 abbrev pub counted : ElfFile → Options → Bool → List Block → ℕ
 counted f o far blocks =
     sum_of_sizes far (prologue (half_of o.half (image_of f)) (data_ranges (image_of f)) f.entry)
@@ -115,7 +115,7 @@ admitted = code.admitted far_test 0x10000 far_code known refl far_options refl r
 
 -- ---- its blocks
 infixr 5 ◌beside◌
--- of a first block and of those behind it
+-- a fact on a first block and on those behind it
 ◌beside◌ : {A B : Type 0} → A → B → A × B
 a beside b = (a, b)
 
@@ -157,7 +157,7 @@ far = ap (nat_lt MAX_NEAR_CODE_BYTES) near_size
 size : code_size far_test far_options far_blocks ≡ 1182628
 size = ap (λ b. sum_of_sizes b (items_in far_test far_options b far_blocks)) far ∙ far_size
 
--- ---- what is told of its output
+-- ---- its plan
 told : IsToldOf (compared far_test far_options far_blocks) far_test far_options far_blocks far_plan
 told = record {
   base = refl;

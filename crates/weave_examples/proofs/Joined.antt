@@ -1,4 +1,4 @@
--- Joined pieces meet the laws of a weave: the lemmas of their own are those on a piece.
+-- Joined pieces meet the laws of a weave: only the lemmas on a piece are their own.
 use Rattle.std.proofs.Common.{◌≡◌, ℕ, suc, ◌+◌, ◌-◌, ◌*◌, ◌<◌, ◌≤◌, ⊎_elim, Bool, true, false, List, [], ◌∷◌, ◌++◌, length, refl, sym, ap, ◌∙◌, subst, arith, append_assoc, length-append}
 use Rattle.std.proofs.lemmas.Bool.{and_parts, leb-true, cases_lt}
 use Rattle.std.proofs.Math.Nat.{mul-le-mul, mul-le-mul_left}
@@ -128,7 +128,7 @@ module _ (w : World) (law : Mirrors w) where
     a1 : At w u ((each_part original r s.pc ++ each_part w.form.mirror r s.pc) ++ mid) s s
     a1 = subst (λ l. At w u l s s) (append_assoc (each_part original r s.pc ++ each_part w.form.mirror r s.pc) (runs_items w.form rs (s.pc + 4 * length r)) rest) a
 
-    -- in this run
+    -- the instruction is in this run
     inside : n < length r → GoesTo w u n (w.form.cost * length (r ++ whole rs)) (λ k x. Inside w u s n k x × (k < w.form.cost * length (r ++ whole rs)))
     inside h =
         let a2 : At w u (each_part original r s.pc ++ (each_part w.form.mirror r s.pc ++ mid)) s s = subst (λ l. At w u l s s) (append_assoc (each_part original r s.pc) (each_part w.form.mirror r s.pc) mid) a1 in
@@ -137,7 +137,7 @@ module _ (w : World) (law : Mirrors w) where
         let m : 3 * suc n ≤ w.form.cost * length (r ++ whole rs) = mul-le-mul law.enough few in
         record { steps = g.steps; to = g.to; at_least = g.at_least; within = omega (arith, g.within, m); walk = g.walk; is = (g.is.0, omega (arith, g.within, m)) }
 
-    -- in a later one
+    -- the instruction is in a later run
     behind :
         ((k : ℕ) (y t : State) → k < length (whole rs) → HasAt w.source t.pc (whole rs) → At w y (runs_items w.form rs t.pc ++ rest) t t → Sourced w t → NotTrapped (run t k) → GoesTo w y k (w.form.cost * length (whole rs)) (λ j x. Inside w y t k j x × (j < w.form.cost * length (whole rs))))
         → length r ≤ n → GoesTo w u n (w.form.cost * length (r ++ whole rs)) (λ k x. Inside w u s n k x × (k < w.form.cost * length (r ++ whole rs)))
@@ -164,7 +164,7 @@ module _ (w : World) (law : Mirrors w) where
         }
 
 -- ---- the words
--- of all runs, with what stands behind them
+-- the words of all runs, and those behind them
 runs_lockstep :
     (form : Form) (checks : List Item) → MirrorsFit form.far form.mirror → Lockstep (λ far. far ≡ form.far) [] checks → (rs : List (List Ins)) (at : ℕ)
     → AllFit (whole rs) → Lockstep (λ far. far ≡ form.far) [] (runs_items form rs at ++ checks)

@@ -1,4 +1,4 @@
--- Two known ELF files, as they are written and read: a test with a loop, and one with a data word.
+-- Two known ELF files, written and read: a test with a loop, and one with a data word.
 use Rattle.std.proofs.Common.{ℕ, List, [], ◌∷◌, refl}
 use Rattle.std.specs.Prelude.{codes}
 use Rattle.tests.specs.Admission.DataRanges.{ElfFile, Segment}
@@ -11,7 +11,7 @@ use Rattle.tests.specs.Elf.Layout.{null_symbol, symbol_bytes, header_bytes, tabl
 use Rattle.tests.specs.Elf.Sound.{IsSound}
 use Rattle.tests.proofs.Lemmas.{read_sound, opened_verdict, read_of, is_file, are_bytes}
 
--- a file that is written, and what is read: tables are added behind its sections
+-- the file to write, and what is read: tables are added behind its sections
 abbrev out : List Segment → List OutSection → OutFile
 out segments sections = record { entry = 0x10000; flags = 0; segments = segments; sections = sections; symbols = [] }
 

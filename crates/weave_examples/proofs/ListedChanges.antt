@@ -1,4 +1,4 @@
--- Runs with one change that are worked out over a list of instructions, and whether a register is closed on the way.
+-- Runs with one change, computed over a list of instructions, and whether a register is closed on the way.
 use Rattle.std.proofs.Common.{◌≡◌, ℕ, zero, suc, ◌+◌, ◌<◌, true, cond, List, [], ◌∷◌, Some, refl, sym, ap, ◌∙◌, arith}
 use Rattle.std.specs.Prelude.{◌%◌, ◌^◌, ◌||◌, ◌&&◌, not, Bool, nat_le}
 use Rattle.std.proofs.lemmas.Bool.{eq-eqb, ne_eqb}
@@ -30,7 +30,7 @@ changed_there s c n e =
     ∙ ap (λ u. changed c (step u)) (unchanged s c n (omega (arith, e)))
     ∙ ap (changed c) (sym (run-last s n) ∙ ap (run s) next)
 
--- a register is closed where an instruction is next, another stands behind it, and a third where it ends as a guard
+-- whether a register is closed, by the next instruction, the one behind it, and the one where it ends as a guard
 abbrev pub closed_by : ℕ → Ins → Ins → Ins → Bool
 closed_by r i m j = (nat_le 1 r && nat_le r LAST_ORIGINAL) && ((uses r (Known i) && not (is_checked (Known i) (Known m))) || (guards_other r (Known i) && uses r (Known j)))
 

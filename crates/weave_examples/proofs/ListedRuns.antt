@@ -1,4 +1,4 @@
--- Runs that are worked out over a list of instructions: of code without loads and stores, whose instructions are known.
+-- Runs computed over a list of instructions: of code without loads and stores, with known instructions.
 use Rattle.std.proofs.Common.{◌≡◌, ℕ, zero, suc, ◌+◌, ◌%◌, ◌^◌, Bool, true, false, cond, ◌&&◌, List, [], ◌∷◌, Option, Some, None, refl, sym, ap, ◌∙◌}
 use Rattle.std.specs.Prelude.{◌==◌}
 use Rattle.std.proofs.lemmas.Bool.{eqb-true, and_parts}
@@ -10,12 +10,12 @@ use Rattle.qed_model.proofs.Lemmas.{StandFrom}
 use Rattle.tests.proofs.Lemmas.{IsShapely, known_instruction}
 use Rattle.machine.proofs.Lemmas.{step-known}
 
--- the instruction at an address, of some that stand one after the other
+-- the instruction at an address, among some that stand one after another
 abbrev pub instruction_at : ℕ → List Ins → ℕ → Option Ins
 instruction_at base [] a = None
 instruction_at base (i ∷ is) a = cond (a == base) (Some i) (instruction_at (base + 4) is a)
 
--- no load or store
+-- a class other than load and store
 abbrev pub is_simple : Class → Bool
 is_simple class.Compute = true
 is_simple class.Branch = true
@@ -42,7 +42,7 @@ abbrev pub go : ℕ → List Ins → ℕ → State → State
 go base is zero s = s
 go base is (suc n) s = go base is n (go_at (instruction_at base is s.pc) s)
 
--- each of the steps starts at such an instruction
+-- each of the steps starts at an instruction without load or store
 abbrev pub is_simple_run : ℕ → List Ins → ℕ → State → Bool
 is_simple_run base is zero s = true
 is_simple_run base is (suc n) s = is_going s.outcome && (is_simple_at (instruction_at base is s.pc) && is_simple_run base is n (go_at (instruction_at base is s.pc) s))
@@ -69,7 +69,7 @@ jump_leaves : (regs : List ℕ) (target : ℕ) (s : State) → SameCode (jumped 
 unfolding jumped
 jump_leaves regs target s = either (target % 4 == 0) (moved regs target s) (trapped (cause.Target target) s) s (refl, refl) (refl, refl)
 
--- such an instruction leaves the memory and the code ranges
+-- an instruction without load or store leaves the memory and the code ranges
 leaves : (k : Class) (i : Ins) (s : State) → is_simple k ≡ true → SameCode (execute k i s) s
 unfolding execute
 leaves class.Compute i s e = (refl, refl)
@@ -83,7 +83,7 @@ going : (o : Outcome) → is_going o ≡ true → o ≡ Going
 going Going e = refl
 going _ e = absurd (cc)
 
--- where the instructions stand in the code, the run is that of the list
+-- if the instructions stand in the code, the run is that of the list
 module _ (m : Memory) (ranges : List (ℕ × ℕ)) (base : ℕ) (is : List Ins) (stand : HasAt (fetched_at m ranges) base is) where
   step_is :
       (x : Option Ins) (s : State) → instruction_at base is s.pc ≡ x → is_going s.outcome ≡ true → is_simple_at x ≡ true → s.memory ≡ m
@@ -107,7 +107,7 @@ module _ (m : Memory) (ranges : List (ℕ × ℕ)) (base : ℕ) (is : List Ins) 
 abbrev pub state_of : Program → List ℕ → ℕ → Outcome → State
 state_of f regs pc outcome = record { regs = regs; pc = pc; memory = memory_of f.segments; ranges = f.ranges; outcome = outcome }
 
--- the code of a file whose instructions are known
+-- the code of a file with known instructions
 pub has_code : (f : ElfFile) → IsShapely f → (a : ℕ) (is : List Ins) → StandFrom f a is → HasAt (fetched_at (memory_of (loaded_file f).segments) (loaded_file f).ranges) a is
 has_code f h a [] s = tt
 has_code f h a (i ∷ is) s = (known_instruction f h a i s.0, has_code f h (a + 4) is s.1)

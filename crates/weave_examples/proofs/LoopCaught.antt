@@ -1,4 +1,4 @@
--- The promise on changes at work, on a known test with a loop: changes of x5, whose runs are worked out.
+-- The promise on changes at work, on a known test with a loop: changes of x5, with computed runs.
 use Rattle.std.proofs.Common.{◌≡◌, inl, ℕ, ◌+◌, true, false, List, [], ◌∷◌, refl, ap, ◌∙◌, arith}
 use Rattle.std.specs.Prelude.{pos}
 use Rattle.qed_model.specs.declared.change.Change.{Change}
@@ -31,7 +31,7 @@ abbrev pub turn : ℕ → List ℕ
 turn x = 0 ∷ 0 ∷ 0 ∷ 0 ∷ 0 ∷ x ∷ 0 ∷ 0 ∷ 0 ∷ 0 ∷ 0 ∷ 0 ∷ 0 ∷ 0 ∷ 4096 ∷ 0 ∷ 0x10004 ∷ 0 ∷ 0 ∷ 0 ∷ 0 ∷ 1 ∷ 0 ∷ 0 ∷ 0 ∷ 0 ∷ 0 ∷ 0 ∷ 0 ∷ 0 ∷ 0x10004 ∷ 0 ∷ []
 
 -- ---- a change at an open place: the guard of x5 is next
--- x5 is 1 after 72 steps; with 7 in its place the guard fires with step 74
+-- x5 is 1 after 72 steps; with 7 instead the guard fires with step 74
 before_change : after_output loop_output zeros 72 ≡ state_of loop_output (turn 1) 0x1319c Going
 unfolding execute jumped computed_value value holds
 before_change = output_run 72 refl
@@ -40,7 +40,7 @@ open_fired : changed_run (start loop_output zeros) (seven 72 ∷ []) 74 ≡ stat
 unfolding execute jumped computed_value value holds struck
 open_fired = changed_go loop_output 0x13000 loop_new_code loop_stand (seven 72) 71 2 (turn 7) 0x1319c refl refl refl refl
 
--- the promise is of this change: all of its premises are met
+-- the promise covers this change: all its premises are met
 is_open : is_closed (after_output loop_output zeros 72) 5 ≡ false
 unfolding uses is_checked guards_other
 is_open = ap (λ s. is_closed s 5) before_change ∙ closed_there loop_output 0x13000 loop_new_code loop_stand 5 (turn 1) 0x1319c (ins Beq 0 5 21 (pos 8)) (ins Ebreak 0 0 0 (pos 0)) (ins Bne 0 5 0 (pos 8)) refl refl refl
@@ -48,17 +48,17 @@ is_open = ap (λ s. is_closed s 5) before_change ∙ closed_there loop_output 0x
 open_settles : SettlesWithin [] 72 272 (changed_run (start loop_output zeros) (seven 72 ∷ [])) (after_output loop_output zeros)
 open_settles = loop_caught.settles zeros (seven 72 ∷ []) 272 zeros_start tt ((omega arith, omega arith), is_open, tt) refl (covers_steady loop_input loop_output any_address 32 120 zeros (72 + 272) ((steady_any loop_input (72 + 272)).1 (input_ended (72 + 272) (omega arith)))) (ap (λ s. s.outcome) before_change)
 
--- ---- a change at a closed place, which the promise leaves out: the use of x5 is next
+-- ---- a change at a closed place, which the promise does not cover: the use of x5 is next
 at_use : is_closed (after_output loop_output zeros 73) 5 ≡ true
 unfolding uses is_checked guards_other execute jumped computed_value value holds
 at_use = ap (λ s. is_closed s 5) (output_run 73 refl) ∙ closed_there loop_output 0x13000 loop_new_code loop_stand 5 (turn 1) 0x131a4 (ins Bne 0 5 0 (pos 8)) (ins Jal 0 0 0 (pos 8)) (ins Jal 0 0 0 (pos 8)) refl refl refl
 
--- this one is found later, by the comparison of the next piece, with step 86
+-- the comparison of the next piece finds this change later, with step 86
 closed_fired : changed_run (start loop_output zeros) (seven 73 ∷ []) 86 ≡ state_of loop_output (0 ∷ 0 ∷ 0 ∷ 0 ∷ 0 ∷ 6 ∷ 0 ∷ 0 ∷ 0 ∷ 0 ∷ 0 ∷ 0 ∷ 0 ∷ 0 ∷ 4096 ∷ 0 ∷ 0x10004 ∷ 0 ∷ 0 ∷ 0 ∷ 0 ∷ 0 ∷ 0 ∷ 0 ∷ 0 ∷ 0 ∷ 0 ∷ 0 ∷ 0 ∷ 0 ∷ 0x10004 ∷ 0 ∷ []) 0x13140 Fired
 unfolding execute jumped computed_value value holds struck
 closed_fired = changed_go loop_output 0x13000 loop_new_code loop_stand (seven 73) 72 13 (turn 7) 0x131a4 refl refl refl refl
 
--- ---- a wrong instruction: the first one of the test gives 7 and not 2
+-- ---- a wrong instruction: the test's first one gives 7, not 2
 loop_faults : FaultsFound loop_input loop_output any_address [] loop_plan.bounds 32 120
 loop_faults = instruction_faults_are_caught loop defaults loop_blocks loop_words.0 loop_plan loop_words.1 loop_told any_address (any_reached loop defaults refl)
 
@@ -66,7 +66,7 @@ loop_faults = instruction_faults_are_caught loop defaults loop_blocks loop_words
 abbrev first_turn : ℕ → ℕ → List ℕ
 first_turn x y = 0 ∷ 0 ∷ 0 ∷ 0 ∷ 0 ∷ x ∷ 0 ∷ 0 ∷ 0 ∷ 0 ∷ 0 ∷ 0 ∷ 0 ∷ 0 ∷ 4096 ∷ 0 ∷ 0x10000 ∷ 0 ∷ 0 ∷ 0 ∷ 0 ∷ y ∷ 0 ∷ 0 ∷ 0 ∷ 0 ∷ 0 ∷ 0 ∷ 0 ∷ 0 ∷ 0x10000 ∷ 0 ∷ []
 
--- after 33 steps it is next
+-- after 33 steps this instruction is next
 before_two : after_output loop_output zeros 33 ≡ state_of loop_output (first_turn 0 0) 0x13088 Going
 unfolding execute jumped computed_value value holds
 before_two = output_run 33 refl
@@ -74,7 +74,7 @@ before_two = output_run 33 refl
 two_next : next (after_output loop_output zeros 33) ≡ Known (ins Addi 5 0 0 (pos 2))
 two_next = ap next before_two ∙ found (fetched_at (memory_of loop_output.segments) loop_output.ranges) 0x13000 loop_new_code 0x13088 (ins Addi 5 0 0 (pos 2)) loop_stand refl
 
--- what it leaves
+-- the state that the wrong instruction leaves
 abbrev wrong_two : State
 wrong_two = moved (set_reg 5 7 (after_output loop_output zeros 33).regs) (next_pc (after_output loop_output zeros 33)) (after_output loop_output zeros 33)
 

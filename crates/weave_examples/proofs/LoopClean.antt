@@ -1,5 +1,5 @@
--- The promise on the end of a test at work, on a known test with a loop and with the sweep: a change of x5, made before the sweep, is
--- not silent at the end.
+-- The promise on the end of a test at work, on a known test with a loop and with the sweep: a change of x5 before the
+-- sweep is not silent at the end.
 use Rattle.std.proofs.Common.{◌≡◌, ◌≢◌, ◌⊎◌, ℕ, ◌+◌, ◌-◌, ◌<◌, true, false, List, [], ◌∷◌, refl, sym, ap, ◌∙◌, arith}
 use Rattle.std.specs.Prelude.{pos}
 use Rattle.tests.specs.Elf.FileRead.{file_read}
@@ -32,7 +32,7 @@ words = tests_have_words loop swept loop_blocks loop_sound (sound true) loop_swe
 abbrev output : Program
 output = loaded_file (file_read (woven_file loop swept loop_blocks words.0))
 
--- no change is silent at the end that was made before the last 14 steps
+-- no change made before the last 14 steps is silent at the end
 clean : CleanInStep loop_input output any_address [] 14 46 120
 clean = tests_clean loop swept loop_blocks words.0 words.1 refl any_address (any_reached loop swept refl)
 
@@ -46,7 +46,7 @@ stand = kept.stand loop swept (sound true) loop_loads loop_swept_admitted loop_b
 output_run : (n : ℕ) → is_simple_run 0x13000 new_code n (start output zeros) ≡ true → after_output output zeros n ≡ go 0x13000 new_code n (start output zeros)
 output_run n simple = run_is (memory_of output.segments) output.ranges 0x13000 new_code stand n (start output zeros) simple refl refl
 
--- it ends with step 130: with the 13 comparisons of the sweep behind the 117 steps that it has without it
+-- the output ends with step 130: 13 comparisons of the sweep behind the 117 steps without it
 output_end : (after_output output zeros 130).outcome ≡ Ended
 unfolding execute jumped computed_value value holds
 output_end = ap (λ s. s.outcome) (output_run 130 refl)
@@ -62,7 +62,7 @@ not_before k l e =
     let both : Going ≡ Ended = sym output_goes_on ∙ ap (λ s. s.outcome) stays ∙ e in
     absurd (cc)
 
--- ---- the change: 7 in x5 after 72 steps, where its guard is next
+-- ---- the change: 7 in x5 after 72 steps, when its guard is next
 is_open : is_closed (after_output output zeros 72) 5 ≡ false
 unfolding uses is_checked guards_other execute jumped computed_value value holds
 is_open = ap (λ s. is_closed s 5) (output_run 72 refl) ∙ closed_there output 0x13000 new_code stand 5 (turn 1) 0x1319c (ins Beq 0 5 21 (pos 8)) (ins Ebreak 0 0 0 (pos 0)) (ins Bne 0 5 0 (pos 8)) refl refl refl

@@ -1,5 +1,5 @@
--- A known test with a loop is admitted, and has the blocks, the entries and the bounds that `reference/qed plan` gives it:
--- addi x5, x0, 2; addi x5, x5, -1; bne x5, x0, -4; ecall.
+-- A known test with a loop is admitted, and has the blocks, entries and bounds that `reference/qed plan` prints: addi
+-- x5, x0, 2; addi x5, x5, -1; bne x5, x0, -4; ecall.
 use Rattle.std.proofs.Common.{inl, Bool, List, [], ◌∷◌, None, refl, arith, false}
 use Rattle.std.specs.Prelude.{pos, neg_ℤ}
 use Rattle.qed_model.specs.declared.plan.Plan.{Plan}
@@ -37,11 +37,11 @@ loop_known = record { range = refl; grain = refl; stand = (refl, (refl, (refl, (
 pub loop_admitted : IsAdmitted loop defaults
 loop_admitted = code.admitted loop 0x10000 loop_code loop_known refl defaults refl refl (omega arith) (omega arith) (omega arith) (omega arith)
 
--- and with the sweep
+-- the test is admitted with the sweep too
 pub loop_swept_admitted : IsAdmitted loop swept
 loop_swept_admitted = code.admitted loop 0x10000 loop_code loop_known refl swept refl refl (omega arith) (omega arith) (omega arith) (omega arith)
 
--- ---- its blocks: the first falls to the target of the branch, and an ECALL stands behind it
+-- ---- its blocks: the first falls through to the target of the branch, and an ECALL stands behind the branch
 abbrev pub loop_blocks : List Block
 loop_blocks =
     record { start = 0x10000; body = (two ∷ []) ∷ []; end = Falls; reached = false }
@@ -59,7 +59,7 @@ loop_are sweep =
       ),
     )
 
--- ---- what is told of its output
+-- ---- its plan
 abbrev pub loop_plan : Plan
 loop_plan = record {
   base = 0x10000;

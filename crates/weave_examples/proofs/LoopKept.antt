@@ -1,4 +1,4 @@
--- A known file, a test with a loop: the promise holds of it, and its run and that of its output are worked out on the definitions.
+-- A known file, a test with a loop: the promise holds of it; its run and its output's are computed by the definitions.
 use Rattle.std.proofs.Common.{◌≡◌, inl, inr, ℕ, zero, suc, ◌+◌, ◌-◌, ◌<◌, ◌≤◌, Bool, true, false, List, [], ◌∷◌, Some, refl, sym, ap, ◌∙◌, arith}
 use Rattle.std.specs.Prelude.{pos, neg_ℤ, replicate}
 use Rattle.rv_isa.specs.declared.class.Class.TheVariants as class
@@ -40,7 +40,7 @@ loop_kept = tests_kept loop defaults loop_blocks loop_words.0 loop_plan loop_wor
 loop_landed : LandedInStep 4 loop_input loop_output any_address loop_plan.entries 32 120
 loop_landed = tests_landed loop defaults loop_blocks loop_words.0 loop_words.1 any_address (any_reached loop defaults refl)
 
--- ---- what stands where
+-- ---- what the memory holds
 pub loop_loads : AreLoads (load_segments loop.segments)
 loop_loads = loop_sound.loads
 
@@ -67,7 +67,7 @@ input_end : after_input loop_input 6 ≡ state_of loop_input zeros 0x1000c Ended
 unfolding execute jumped computed_value value holds
 input_end = input_run 6 refl
 
--- and not before
+-- the input does not end before
 input_goes_on : (after_input loop_input 5).outcome ≡ Going
 unfolding execute jumped computed_value value holds
 input_goes_on = ap (λ s. s.outcome) (input_run 5 refl)
@@ -77,7 +77,7 @@ output_end : after_output loop_output zeros 117 ≡ state_of loop_output (0 ∷ 
 unfolding execute jumped computed_value value holds
 output_end = output_run 117 refl
 
--- and not before
+-- the output does not end before
 output_goes_on : (after_output loop_output zeros 116).outcome ≡ Going
 unfolding execute jumped computed_value value holds
 output_goes_on = ap (λ s. s.outcome) (output_run 116 refl)
@@ -90,7 +90,7 @@ input_ended n l =
     let stays : after_input loop_input n ≡ after_input loop_input 6 = ap (after_input loop_input) (sym sum) ∙ run-more (start loop_input zeros) 6 (n - 6) ∙ run-ended (n - 6) (after_input loop_input 6) (ap (λ s. s.outcome) input_end) in
     ap (λ s. is_trapped s.outcome) (stays ∙ input_end)
 
--- after some steps, and not more than 872, the output has ended with what the input has at its end
+-- after at most 872 steps, the output has ended with what the input has at its end
 kept_with :
     (reached : ℕ → Bool) → AreReached loop defaults reached → Steady loop_input reached 6
     → (m : ℕ) × (m ≤ 872) × Halves loop_input (after_input loop_input 6) (after_output loop_output zeros m) × ((after_output loop_output zeros m).outcome ≡ Ended)
@@ -102,17 +102,17 @@ kept_with reached aims steady =
 kept_end : (m : ℕ) × (m ≤ 872) × Halves loop_input (after_input loop_input 6) (after_output loop_output zeros m) × ((after_output loop_output zeros m).outcome ≡ Ended)
 kept_end = kept_with any_address (any_reached loop defaults refl) ((steady_any loop_input 6).1 (input_ended 6 (omega arith)))
 
--- after 30 steps it stands at the entry of 0x10000
+-- after 30 steps the output stands at the entry of 0x10000
 at_entry : ((after_output loop_output zeros 30).outcome ≡ Going) × ((after_output loop_output zeros 30).pc ≡ 0x13078)
 unfolding execute jumped computed_value value holds
 at_entry = let e = output_run 30 refl in (ap (λ s. s.outcome) e, ap (λ s. s.pc) e)
 
--- at that of 0x1000c, the same state fires within 4 steps
+-- placed at the entry of 0x1000c, this state fires within 4 steps
 landed_wrong : Fires 4 (placed_at 0x131b0 (after_output loop_output zeros 30))
 landed_wrong =
     loop_landed.fires zeros 30 0x10000 0x1000c 0x13078 0x131b0 zeros_start (inr ((steady_any loop_input 30).1 (input_ended 30 (omega arith)))) (inl (refl, refl)) (inr (inr (inl (refl, refl)))) (λ e. absurd (omega (arith, e))) at_entry.0 at_entry.1
 
--- ---- with a set of reached addresses that has none: no jump by register is among the input's steps
+-- ---- with an empty set of reached addresses: the input makes no indirect jump
 abbrev none : ℕ → Bool
 none a = false
 

@@ -9,7 +9,7 @@ use Rattle.lockstep.proofs.Lemmas.{visits_ten, caught_with}
 use Rattle.weave_examples.specs.Laws.{quiet_one, lockstep_one}
 use Rattle.weave_examples.specs.Promise.{checks_of, steps_of, OneKept, OneCaught}
 
--- the laws of the pass give those of the checks
+-- the laws of the pass imply those of the checks
 one_checks : (form : Form) → ChecksLaws form (checks_of form) 1 (steps_of form)
 one_checks form = checks_after form (guard 10) (compare ++ visit form.round form.spans) 1 0 (ORIGINALS + visit_bound (word_count form.spans) (length form.spans) * form.round) quiet_one lockstep_one (form_checks form)
 

@@ -1,4 +1,4 @@
--- The promises on changes hold of a known file, a test with a data word: all of their premises are met.
+-- The promises on changes hold of a known file, a test with a data word: all their premises are met.
 use Rattle.std.proofs.Common.{◌≡◌, ℕ, zero, suc, ◌+◌, ◌-◌, ◌%◌, ◌≤◌, Bool, true, cond, ◌&&◌, [], ◌∷◌, Option, refl, sym, ap, ◌∙◌, arith, inl, List, Some}
 use Rattle.std.specs.Prelude.{◌==◌}
 use Rattle.machine.specs.declared.outcome.Cause.TheVariants as cause
@@ -22,7 +22,7 @@ use Rattle.weave_examples.proofs.StoreExample.{store_code, store_known, store_ad
 use Rattle.weave_examples.proofs.ListedRuns.{has_code}
 use Rattle.weave_examples.proofs.StoreKept.{store_input, store_words, swept_words, store_output, swept_output}
 
--- ---- the run of a known test with a data word, worked out step by step: it loads 5, and stores 10 in its place
+-- ---- the run of a known test with a data word, computed step by step: it loads 5, and stores 10 there
 abbrev m : Memory
 m = memory_of store_input.segments
 
@@ -35,7 +35,7 @@ sized = all_sized_among (load_segments store.segments) loads.sized
 code : HasAt (fetched_at m store_input.ranges) 0x10000 store_code
 code = has_code store (record { loads = loads; sections = store_admitted.sections; segments = store_admitted.segments }) 0x10000 store_code store_known.stand
 
--- permissions by the segments
+-- whether an access is granted, by the segments
 abbrev granted : (Flags → Bool) → (ℕ → Option Cell) → ℕ → ℕ → Bool
 granted need c a zero = true
 granted need c a (suc n) = allows need (c (wrap a)) && granted need c (a + 1) n
@@ -98,12 +98,12 @@ fifth_step : step (at 0x20000 5 10 0x10010 (put m 0x20000 8 10) Going) ≡ at 0x
 unfolding execute
 fifth_step = step-known (at 0x20000 5 10 0x10010 (put m 0x20000 8 10) Going) ecall refl (fetch_kept ∙ code.1.1.1.1.0)
 
--- it ends with its fifth step at 0x10010
+-- the run ends with its fifth step at 0x10010
 input_end : after_input store_input 5 ≡ at 0x20000 5 10 0x10010 (put m 0x20000 8 10) Ended
 unfolding run
 input_end = ap (λ s. run s 4) first_step ∙ ap (λ s. run s 3) second_step ∙ ap (λ s. run s 2) third_step ∙ ap (λ s. run s 1) fourth_step ∙ fifth_step
 
--- so it never traps
+-- the run never traps
 pub store_calm : (n : ℕ) → 5 ≤ n → NotTrapped (after_input store_input n)
 store_calm n l =
     let sum : 5 + (n - 5) ≡ n = omega (arith, l) in
@@ -118,7 +118,7 @@ spans = (0x20000, 0x20008) ∷ []
 store_caught : CaughtInStep store_input store_output any_address spans (record { piece = 120; register = 272; word = Some 392; start = 32 }) 32 120
 store_caught = tests_caught store defaults store_blocks store_words.0 store_plan store_words.1 store_told any_address (any_reached store defaults refl)
 
--- with the sweep no change is silent at the end that was made before the last 24 steps
+-- with the sweep no change made before the last 24 steps is silent at the end
 store_clean : CleanInStep store_input swept_output any_address spans 24 56 120
 store_clean = tests_clean store swept store_blocks swept_words.0 swept_words.1 refl any_address (any_reached store swept refl)
 

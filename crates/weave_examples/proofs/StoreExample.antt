@@ -1,5 +1,5 @@
--- A known test with a data word is admitted, and has the block, the entry and the bounds that `reference/qed plan` gives it:
--- lui x8, 0x20; ld x9, 0(x8); add x10, x9, x9; sd x10, 0(x8); ecall.
+-- A known test with a data word is admitted, and has the block, entry and bounds that `reference/qed plan` prints: lui
+-- x8, 0x20; ld x9, 0(x8); add x10, x9, x9; sd x10, 0(x8); ecall.
 use Rattle.std.proofs.Common.{inl, Bool, List, [], ◌∷◌, Some, refl, arith, false}
 use Rattle.std.specs.Prelude.{pos}
 use Rattle.qed_model.specs.declared.plan.Plan.{Plan}
@@ -40,7 +40,7 @@ store_known = record { range = refl; grain = refl; stand = (refl, (refl, (refl, 
 pub store_admitted : IsAdmitted store defaults
 store_admitted = code.admitted store 0x10000 store_code store_known refl defaults refl refl (omega arith) (omega arith) (omega arith) (omega arith)
 
--- and with the sweep
+-- the test is admitted with the sweep too
 pub store_swept_admitted : IsAdmitted store swept
 store_swept_admitted = code.admitted store 0x10000 store_code store_known refl swept refl refl (omega arith) (omega arith) (omega arith) (omega arith)
 
@@ -51,7 +51,7 @@ store_blocks = record { start = 0x10000; body = (lui ∷ []) ∷ (ld ∷ add ∷
 pub store_are : (sweep : Bool) → AreBlocks store (options sweep) store_blocks
 store_are sweep = made.are_blocks store 0x10000 store_code store_known (options sweep) refl refl store_blocks refl refl refl (inl (made.stopping store 0x10000 store_code store_known (options sweep) refl refl [] ((lui ∷ []) ∷ (ld ∷ add ∷ []) ∷ (sd ∷ []) ∷ []) ecall [] refl refl refl), tt)
 
--- ---- what is told of its output
+-- ---- its plan
 abbrev pub store_plan : Plan
 store_plan = record {
   base = 0x10000;

@@ -1,4 +1,4 @@
--- The promises hold of a known file, a test with a data word: all of their premises are met.
+-- The promises hold of a known file, a test with a data word: all their premises are met.
 use Rattle.std.proofs.Common.{ℕ, true, false, List, refl, arith}
 use Rattle.tests.specs.Elf.FileRead.{file_read}
 use Rattle.machine.specs.Loading.{loaded_file}
@@ -13,14 +13,14 @@ use Rattle.weave_examples.proofs.StoreExample.{store_plan, store_told, store_adm
 use Rattle.weave_core.specs.Tests.{IsWovenTest}
 use Rattle.weave_core.proofs.Lemmas.{tests_have_words, tests_kept, tests_landed}
 
--- there are words of its new code, plainly and with the sweep
+-- its new code has words, without the sweep and with it
 pub store_words : (words : List ℕ) × IsWovenTest store defaults store_blocks words
 store_words = tests_have_words store defaults store_blocks store_sound (sound false) store_admitted (store_are false) (omega arith)
 
 pub swept_words : (words : List ℕ) × IsWovenTest store swept store_blocks words
 swept_words = tests_have_words store swept store_blocks store_sound (sound true) store_swept_admitted (store_are true) (omega arith)
 
--- ---- the input and the output as they are loaded
+-- ---- the input and the output when loaded
 abbrev pub store_input : Program
 store_input = loaded_file store
 

@@ -1,5 +1,5 @@
--- A known test with a JALR and its table, and two data ranges, of which one is read only. It is woven in the far form, with the sweep
--- and with mirror parts of other kinds. All promises hold of it, with the numbers that `reference/qed plan` gives.
+-- A known test with a JALR and its table, and two data ranges, one of them read only; woven in the far form, with the
+-- sweep and other mirror parts. All promises hold of it, with the numbers that `reference/qed plan` prints.
 use Rattle.std.specs.Prelude.{◌≡◌, ℕ, ◌++◌, true, false, List, [], ◌∷◌, None, Some, pos}
 use Rattle.tests.specs.declared.options.Options.{Options}
 use Rattle.tests.specs.declared.options.Entries.TheVariants as entries
@@ -36,7 +36,7 @@ code_bytes =
     0x33 ∷ 0x85 ∷ 0x63 ∷ 0x40 ∷ 0x6f ∷ 0 ∷ 0x40 ∷ 0 ∷ 0xef ∷ 0 ∷ 0x80 ∷ 0 ∷ 0x73 ∷ 0 ∷ 0 ∷ 0 ∷
     0xb3 ∷ 5 ∷ 0x75 ∷ 0 ∷ 0x67 ∷ 0x80 ∷ 0 ∷ 0 ∷ []
 
--- its segments: the code, a word that is read only, and one that is written
+-- the segments of the file: the code, a word that is read only, and one that is written
 abbrev text : Segment
 text = record { kind = 1; flags = 5; address = 0x10000; memory = 72; bytes = code_bytes }
 
@@ -49,7 +49,7 @@ variable = record { kind = 1; flags = 6; address = 0x21000; memory = 8; bytes = 
 unfoldable pub far_bytes : List ℕ
 far_bytes = header ++ (fields_bytes (program_fields text 0xe8 ++ (program_fields constant 0x130 ++ program_fields variable 0x138)) ++ (code_bytes ++ (constant.bytes ++ variable.bytes)))
 
--- the file that they are
+-- the file with these bytes
 abbrev pub far_test : ElfFile
 far_test = record { entry = 0x10000; flags = 0; segments = text ∷ constant ∷ variable ∷ []; sections = []; symbols = []; relas = [] }
 
@@ -112,7 +112,7 @@ far_blocks =
     ∷ one 0x10018 sd_5 next ∷ bare 0x1001c next ∷ one 0x10020 ld_6 next ∷ bare 0x10024 next ∷ one 0x10028 mul next ∷ bare 0x1002c next
     ∷ one 0x10030 sub next ∷ bare 0x10034 next ∷ bare 0x10038 call ∷ bare 0x1003c ecall ∷ one 0x10040 add jalr ∷ bare 0x10044 jalr ∷ []
 
--- ---- what is told of its output
+-- ---- the plan of its output
 abbrev pub far_plan : Plan
 far_plan = record {
   base = 0x10000;

@@ -1,5 +1,5 @@
--- Joined pieces: several runs, each with its original and its mirror parts, are one piece, with one comparison and the visits of one
--- piece behind them. Entry, leave and what runs first are those of a form.
+-- Joined pieces: several runs, each with its original and its mirror parts, make one piece, with one comparison and one
+-- round of visits behind them. Entry, leave and what runs first are those of a form.
 use Rattle.std.specs.Prelude.{◌≡◌, ◌≤◌, ℕ, ◌+◌, ◌*◌, Bool, true, cond, ◌&&◌, nat_le, List, [], ◌∷◌, ◌++◌, length}
 use Rattle.qed_model.specs.declared.bounds.Bounds.{Bounds}
 use Rattle.qed_model.specs.declared.plan.EntryRow.{EntryRow}
@@ -17,17 +17,17 @@ use Rattle.weave_core.specs.Weave.{Weave, start_steps, stage_steps}
 use Rattle.weave_core.specs.WeaveForms.{weave_of}
 use Rattle.weave_core.specs.WeavePromise.{PlanOf, OnlyCode, BoundsOf}
 
--- each is a run
+-- each list is a run
 abbrev pub all_runs : List (List Ins) → Bool
 all_runs [] = true
 all_runs (r ∷ rs) = is_run r && all_runs rs
 
--- all parts of runs one behind the other
+-- the parts of all runs, one run behind another
 abbrev pub runs_items : Form → List (List Ins) → ℕ → List Item
 runs_items form [] at = []
 runs_items form (r ∷ rs) at = (each_part original r at ++ each_part form.mirror r at) ++ runs_items form rs (at + 4 * length r)
 
--- with a way of cutting instructions into runs, and `most` instructions in a piece
+-- the weave with a way of cutting instructions into runs, and at most `most` instructions in a piece
 abbrev pub joined : (List Ins → List (List Ins)) → Form → ℕ → Weave
 joined cut form most = record (weave_of form most) {
   code = record (sequences form) { piece = λ is at. runs_items form (cut is) at ++ (compare ++ visit form.round form.spans) };
@@ -43,7 +43,7 @@ abbrev pub cut_runs : List Ins → List (List Ins)
 cut_runs [] = []
 cut_runs (i ∷ is) = put_first i (cut_runs is)
 
--- ---- what is promised of them, with any way of cutting that keeps the instructions
+-- ---- what is promised of joined pieces, with any way of cutting that keeps the instructions
 abbrev pub JoinedKept : (List Ins → List (List Ins)) → Type 0
 JoinedKept cut =
     (f g : Program) (w : World) (most : ℕ) (blocks : List Block) → PlanOf f g w (joined cut w.form most) blocks → Mirrors w
@@ -66,6 +66,6 @@ JoinedClean cut =
     → MirrorsFit w.form.far w.form.mirror → OnlyCode f g w (joined cut w.form most).code blocks → 1 ≤ w.form.round → w.form.sweep ≡ true
     → CleanInStep f g w.reached w.form.spans ((joined cut w.form most).sweep_steps + 14) (start_steps (joined cut w.form most)) (stage_steps (joined cut w.form most))
 
--- that the cut above keeps them, and gives runs: so each list of at most so many instructions is one piece
+-- the cut above keeps the instructions and gives runs: so each list of at most `most` instructions is one piece
 abbrev pub CutsRuns : Type 0
 CutsRuns = (is : List Ins) → (whole (cut_runs is) ≡ is) × (all_runs (cut_runs is) ≡ true)

@@ -1,4 +1,4 @@
--- The new code with the pass, and what is promised of it.
+-- The new code with the pass, and its promises.
 use Rattle.std.specs.Prelude.{ℕ, ◌+◌, ◌*◌, ◌≤◌, List, ◌++◌, length}
 use Rattle.qed_model.specs.declared.bounds.Bounds.{Bounds}
 use Rattle.qed_model.specs.Promise.InStep.{CaughtInStep}
@@ -17,7 +17,7 @@ use Rattle.weave_core.specs.WeavePromise.{PlanOf, OnlyCode, BoundsOf}
 abbrev pub checks_of : Form → List Item
 checks_of form = guard 10 ++ (compare ++ visit form.round form.spans)
 
--- one step more
+-- the steps of a piece's checks, one more than without the pass
 abbrev pub steps_of : Form → ℕ
 steps_of form = 1 + (ORIGINALS + visit_bound (word_count form.spans) (length form.spans) * form.round)
 

@@ -1,6 +1,6 @@
-//! Examples of weaves, which no program weaves. `CompareOne` is a pass of one's own: it compares x10 with its pair in the middle of a
-//! piece, behind the parts of its instructions and before the comparison of all registers. With its three laws the new code keeps the
-//! values and catches changes. `joined_pieces` is a leaner weave. No induction is made again for either. `far_test_promised` is a test.
+//! Example weaves, used by no program. `CompareOne` is a custom pass: it compares x10 with its pair behind the parts of
+//! a piece, before the comparison of all registers. With its three laws the new code keeps the values and catches
+//! changes. `joined_pieces` is a leaner weave. Neither needs another induction. `far_test_promised` is a test.
 #![tactic(auto)]
 
 ghost use Rattle.weave_examples.specs.Promise.{OneKept, OneCaught};
@@ -61,8 +61,8 @@ pub fn one_caught()
     ensures { OneCaught }
 {}
 
-/// Several runs, each with its original and its mirror parts, are one piece, behind which all registers are compared once: all
-/// promises hold of such a weave too, with the bounds of its longer pieces. Any instructions are cut into such runs.
+/// Several runs, each with its original and its mirror parts, make one piece with one comparison behind it.
+/// All promises hold of this weave too, with its longer pieces' bounds. Any instructions can be cut so.
 pub fn joined_pieces()
     ensures cut { CutsRuns }
     ensures kept { JoinedKept cut_runs }
@@ -71,8 +71,8 @@ pub fn joined_pieces()
     ensures clean { JoinedClean cut_runs }
 {}
 
-/// A known test with a JALR and its table, and two data ranges, of which one is read only, woven in the far form, with the sweep and with
-/// mirror parts of other kinds: all premises of the promises are met, with the numbers of the plan.
+/// A known test with a JALR and its table, and two data ranges, one of them read only. It is woven in the far form,
+/// with the sweep and mirror parts of other kinds. It meets all premises of the promises, with the numbers of the plan.
 #[tactic(auto, using(crate::proofs::FarTest::far_promised))]
 pub fn far_test_promised()
     ensures { FarPromised }

@@ -35,7 +35,7 @@ found k (j ∷ js) d (inr h) =
     let other = not-true (bytes_eq (name_of j) (name_of k)) apart in
     ap (λ b. cond b (Some j) (find (λ j. bytes_eq (name_of j) (name_of k)) js)) other ∙ found k js parts.1 h
 
--- ---- a name is no other first word
+-- ---- a name differs from any other first word
 some_plain : Kind → Bool
 some_plain k = (leb 1 (length (name_of k)) && leb (length (name_of k)) 8) && list_all is_plain (name_of k)
 

@@ -19,14 +19,14 @@ all_other line h = let all = AllPass-from_list_all (λ c. not (eqb c newline)) l
 pub split_one : (line text : List ℕ) → lacks newline line ≡ true → split (line ++ newline ∷ text) ≡ line ∷ split text
 split_one line text h = slice_split_at (λ c. eqb c newline) line newline text (all_other line h) refl
 
--- the last line may end at one
+-- the last line may end at a newline or not
 pub last_line : (line : List ℕ) → lacks newline line ≡ true → split (line ++ []) ≡ line ∷ []
 last_line line h = ap split (append-nil line) ∙ slice_split_none (λ c. eqb c newline) line (all_other line h)
 
 pub ended_line : (line : List ℕ) → lacks newline line ≡ true → split (line ++ newline ∷ []) ≡ line ∷ [] ∷ []
 ended_line line h = split_one line [] h
 
--- lines with an end that gives some more
+-- lines split again, with a last part that gives some more lines
 pub split_lines :
     (end : List ℕ) (more lines : List (List ℕ)) → ((x : List ℕ) → lacks newline x ≡ true → split (x ++ end) ≡ x ∷ more)
     → 1 ≤ length lines → All (λ line. lacks newline line ≡ true) lines → split (join_with_byte newline lines ++ end) ≡ lines ++ more

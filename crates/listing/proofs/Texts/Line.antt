@@ -100,7 +100,7 @@ pub record IsSaid (line : List ℕ) (w : ℕ) : Type 0 where
       (labels : List ℕ → Option Label) (p : Place) (n : ℕ) → p.in_data ≡ false → p.code_words < max_code
       → given_by labels p n (head_in line) (leading_word line) (rest_in line) ≡ Ok (given.Code w)
 
--- and that says nothing else
+-- the line gives a word and nothing else
 pub record IsWordLine (line : List ℕ) (w : ℕ) : Type 0 where
   pub said : IsSaid line w
   pub own : IsLine line
@@ -158,7 +158,7 @@ word_line w h = by (decode_of w) refl where
   by None e = raw_line w h
   by (Some i) e = ins_line w i h e
 
--- ---- any line that says the same
+-- ---- any line with an equal statement
 record IsAlike (line other : List ℕ) : Type 0 where
   word : leading_word line ≡ leading_word other
   rest : rest_in line ≡ rest_in other

@@ -15,7 +15,7 @@ use Rattle.listing.proofs.Texts.Parts.{lacks, lacks_append, plain_lacks, parted_
 use Rattle.listing.proofs.Texts.Printed.{hex_plain}
 use Rattle.listing.proofs.Texts.Sayings.{sayings_assemble}
 
--- a line of it without the newline
+-- a line of the listing without the newline
 abbrev comment : ℕ → ℕ → List ℕ
 comment a w = codes " " ++ (hex_text a ++ (codes " " ++ word_text w))
 

@@ -27,7 +27,7 @@ read_digit base n v c cs e low small =
 
 -- ---- digits, by the function that prints them
 module _ (base : ℕ) (low : 2 ≤ base) (high : base ≤ 16) where
-  -- the digits of n with the last one in front of others, and with those before it too
+  -- the digits of n with the last one in front of others, and with the earlier ones too
   abbrev last : ℕ → List ℕ → List ℕ
   last n cs = digit_glyph false (n % base) ∷ cs
 
@@ -67,11 +67,11 @@ module _ (base : ℕ) (low : 2 ≤ base) (high : base ≤ 16) where
       elim (eqb (n / base) 0) as (λ b. list_all p (cond b (last n cs) (whole k n cs)) ≡ true)
       [ true ↦ more | false ↦ all_onto p k (n / base) (last n cs) each more ]
 
--- the hexadecimal digits of n but the last one, with that in front of others
+-- the hexadecimal digits of n except the last, with that in front of others
 abbrev hex_front : ℕ → ℕ → List ℕ → List ℕ
 hex_front k n cs = digits_onto k 16 false (n / 16) (digit_glyph false (n % 16) ∷ cs)
 
--- at most j + 1 of them
+-- at most j + 1 digits
 short_onto : (k j n : ℕ) (cs : List ℕ) → n < 16 ^ suc j → length (digits_onto k 16 false n cs) ≤ suc j + length cs
 short_onto zero j n cs h = omega arith
 short_onto (suc k) j n cs h =
@@ -93,7 +93,7 @@ digits_are base most text some few =
     ap (λ b. cond (b && leb (length text) most) (read_on base 0 text) None) (le-leb 1 (length text) some)
     ∙ ap (λ b. cond b (read_on base 0 text) None) (le-leb (length text) most few)
 
--- a byte that is no digit is another
+-- a byte that is not a digit differs from one that is
 no_digit : (c b : ℕ) → is_ascii_digit c ≡ true → is_ascii_digit b ≡ false → eqb c b ≡ false
 no_digit c b h n = ne_eqb c b (λ e. true≢false (sym h ∙ (ap is_ascii_digit e ∙ n)))
 
@@ -130,7 +130,7 @@ immediate_digits (c ∷ text) n h e =
     ap (λ t. cond t (option_map (λ m. neg_ℤ (pos m)) (number text)) (option_map pos (number (c ∷ text)))) (no_digit c dash first refl)
     ∙ ap (option_map pos) e
 
--- how far from 0
+-- a signed number of 64 bits
 abbrev pub IsNear : ℤ → Type 0
 IsNear (pos n) = n < 2 ^ 63
 IsNear (negsuc n) = n < 2 ^ 63

@@ -1,4 +1,4 @@
--- The operands of an instruction as they are printed, by the form, and the word that is read.
+-- The printed operands of an instruction, by the form, and the word that is read from them.
 use Rattle.std.proofs.Common.{◌≡◌, ℕ, suc, ◌-◌, ◌*◌, ◌^◌, ◌<◌, ◌≤◌, true, false, cond, Option, Some, None, Result, Ok, Err, List, [], ◌∷◌, ◌++◌, length, ℤ, pos, negsuc, refl, sym, ap, ◌∙◌, subst, arith, codes, append_assoc, append-nil}
 use Rattle.std.specs.Prelude.{nat_lt}
 use Rattle.std.specs.Fmt.{signed_decimal}
@@ -76,7 +76,7 @@ module _ (labels : List ℕ → Option Label) (at : ℕ) (k : Kind) (w : ℕ) wh
   abbrev taken : Form → Option Operands → Result ℕ Fault
   taken f o = word_as f k (ok_or o IllegalOperands)
 
-  -- two and three operands, by what is made of them
+  -- two and three operands, by the word that they make
   two : (f : Form) (i : Ins) (a b : List ℕ) (made : Option (List ℕ × List ℕ) → Result ℕ Fault) → IsOperand a → IsOperand b → operands_text f i w ≡ 32 ∷ pair_text a b
       → word_as f i.kind (operands_in labels at f (pair_text a b)) ≡ made (pair_in (pair_text a b)) → made (Some (a, b)) ≡ ok_or (encode_of i) OutOfRange → IsRead labels at f i w
   two f i a b made p q text reads is =

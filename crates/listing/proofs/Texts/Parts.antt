@@ -11,15 +11,15 @@ use Rattle.texts.specs.Read.{parted, around}
 use Rattle.rv_asm.specs.Lines.{is_blank, hash, newline, comma, opening, closing, trim, trim_start, trim_end, pair_in, triple_in, bracketed_in, trimmed, triple_from, triple_with, bracketed_from, bracketed_with}
 
 -- ---- tests of bytes
--- of what names, registers and numbers are made: digits, lower-case letters and `-`
+-- the bytes of names, registers and numbers: digits, lower-case letters and `-`
 abbrev pub is_plain : ℕ → Bool
 is_plain c = (is_in_range 48 57 c || is_in_range 97 122 c) || eqb c 45
 
--- what no text of a word has: `#` and a newline
+-- any byte but `#` and a newline, which no text of a word has
 abbrev pub is_inline : ℕ → Bool
 is_inline c = not (eqb c hash || eqb c newline)
 
--- there is no byte b
+-- byte b does not occur
 abbrev pub lacks : ℕ → List ℕ → Bool
 lacks b text = list_all (λ c. not (eqb c b)) text
 
@@ -80,7 +80,7 @@ unfolding parted
 parted_none b xs h = ap (option_map (around xs)) (position_none b 0 xs h)
 
 -- ---- no blank at an end
--- whatever stands on the other side
+-- no blank stands at either end, whatever follows on the other side
 pub record IsText (text : List ℕ) : Type 0 where
   pub front : (more : List ℕ) → prefix_len is_blank (text ++ more) ≡ 0
   pub back : (more : List ℕ) → suffix_len is_blank (more ++ text) ≡ 0
@@ -111,7 +111,7 @@ plain_text (c ∷ text) some h =
 pub closing_text : IsText (closing ∷ [])
 closing_text = record { front = λ more. refl; back = λ more. solid_back (closing ∷ []) more (omega arith) refl; inline = refl }
 
--- two with some bytes between them
+-- two texts with some bytes between them
 pub joined_text : (a m b : List ℕ) → IsText a → list_all is_inline m ≡ true → IsText b → IsText (a ++ (m ++ b))
 joined_text a m b p h q = record {
   front = λ more. ap (prefix_len is_blank) (append_assoc a (m ++ b) more) ∙ p.front ((m ++ b) ++ more);
@@ -145,7 +145,7 @@ trim_ended text t =
     ∙ (ap (λ n. take (length ended - n) ended) last ∙ take_at text (32 ∷ []) (length ended - 1) (omega (arith, size)))
 
 -- ---- parts between commas
--- a part without one
+-- a part without a comma
 pub record IsPart (text : List ℕ) : Type 0 where
   pub is : IsText text
   pub no_comma : lacks comma text ≡ true

@@ -1,4 +1,4 @@
--- Registers, immediates and words as they are printed, and read back.
+-- Registers, immediates and words: printed, and read back.
 use Rattle.std.proofs.Common.{◌≡◌, ℕ, zero, suc, ◌-◌, ◌^◌, ◌<◌, ◌≤◌, Bool, true, false, cond, eqb, leb, Option, Some, None, List, [], ◌++◌, length, replicate, ℤ, pos, negsuc, refl, ap, ◌∙◌, arith, option_map, codes}
 use lib.Signed.{mag}
 use Rattle.std.specs.Fmt.{digit_glyph, digits, decimal, signed_decimal}
@@ -14,7 +14,7 @@ use Rattle.rv_asm.specs.Operands.{register_in, immediate_in, raw_word_in}
 use Rattle.listing.proofs.Texts.Numbers.{all_onto, IsNear, signed_read, hex_is, hex_length, hex_read}
 use Rattle.listing.proofs.Texts.Parts.{is_plain, lacks_append, plain_lacks, plain_text, joined_text, closing_text, IsPart, bracketed_is}
 
--- ---- of what they are made
+-- ---- the bytes of printed numbers
 glyph_plain : (d : ℕ) → d < 16 → is_plain (digit_glyph false d) ≡ true
 glyph_plain d h = agree_below_at (λ d. is_plain (digit_glyph false d)) (λ d. true) 16 d refl h
 
@@ -147,7 +147,7 @@ upper_is n h =
       reads = ap (option_map pos) (hex_read 16 4 n (omega arith) (omega arith) (omega arith));
     }
 
--- a word that is no instruction
+-- a word that is not an instruction
 pub record IsRawWord (w : ℕ) : Type 0 where
   pub operand : IsOperand (word_text w)
   pub reads : raw_word_in (word_text w) ≡ Some w

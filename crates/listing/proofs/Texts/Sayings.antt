@@ -27,7 +27,7 @@ record Passes {A : Type 0} (p : A → Bool) (xs : List A) (n : ℕ) (d : A) : Ty
   inside : length (filter p (take n xs)) < length (filter p xs)
   is : get_or (filter p xs) (length (filter p (take n xs))) d ≡ get_or xs n d
 
--- one more in front, where it passes
+-- one more element in front, which passes
 one_more :
     {A : Type 0} (b : Bool) (x d y : A) (all some : List A) → length some < length all → get_or all (length some) d ≡ y
     → (length (cond b (x ∷ some) some) < length (cond b (x ∷ all) all))
@@ -51,7 +51,7 @@ empty_text (c ∷ text) e =
     let none = eqb-true (length (c ∷ text)) 0 (not-false (eqb (length (c ∷ text)) 0) e) in
     absurd (omega arith)
 
--- what gives nothing
+-- n empty lists, joined, are empty
 all_empty : {A : Type 0} (f : ℕ → List A) (n : ℕ) → ((i : ℕ) → i < n → f i ≡ []) → gather n f ≡ []
 unfolding gather
 all_empty f zero none = refl
@@ -164,7 +164,7 @@ module _ (ls : List (List ℕ)) (words : List ℕ) (are : AreWords words) (says 
   code_is : code_of ls (length ls) ≡ words
   code_is = codes_so_far (length ls) (omega arith) ∙ take_all (said (length ls)) words (omega (arith, said_all))
 
-  -- what is so of words and of nothing is so of each line
+  -- what holds of words and of nothing holds of each line
   each_given : {A : Type 0} (f : Result Given Fault → A) (y : A) → ((w : ℕ) → f (Ok (given.Code w)) ≡ y) → f (Ok given.Nothing) ≡ y → (n : ℕ) → n < length ls → f (given_at ls n) ≡ y
   each_given f y code none n h = by (turn n h) where
     by : Turn n → f (given_at ls n) ≡ y

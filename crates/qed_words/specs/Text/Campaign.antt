@@ -18,7 +18,7 @@ abbrev pub place_text : Place → List ℕ
 place_text (Reg r) = codes "x" ++ decimal r
 place_text (Word a) = hex_text a
 
--- what is changed when, and what it holds then
+-- what is changed when, and its value then
 abbrev pub change_text : Change → List ℕ
 change_text c = codes " step " ++ (decimal c.step ++ (codes " " ++ (place_text c.place ++ (codes "=" ++ hex_text c.value))))
 
@@ -33,21 +33,21 @@ verdict_text (Fired k) = codes "fired " ++ decimal k
 verdict_text (Ended k) = codes "ended " ++ decimal k
 verdict_text Same = codes "same"
 
--- whether strike i ended right, where that is told
+-- whether strike i ended right, if that is asked for
 abbrev pub right_at : Option (List Bool) → ℕ → Option Bool
 right_at None i = None
 right_at (Some rights) i = slice_get rights i
 
--- how a test ended, where that is told
+-- how a test ended, if that is asked for
 abbrev pub end_text : Verdict → Option Bool → List ℕ
 end_text (Ended k) (Some right) = cond right (codes " right") (codes " wrong")
 end_text _ _ = []
 
--- a strike, its number, and what came of it
+-- a strike, its number, and its verdict
 abbrev pub strike_line : ℕ → Struck → Option Bool → List ℕ
 strike_line i s right = decimal i ++ (changes_text s.changes ++ (codes " " ++ (verdict_text s.verdict ++ (end_text s.verdict right ++ codes "\n"))))
 
--- strikes by their numbers, the first of which is i
+-- strikes by their numbers, from i on
 abbrev pub strike_lines : Option (List Bool) → ℕ → List Struck → List ℕ
 strike_lines rights i [] = []
 strike_lines rights i (s ∷ ss) = strike_line i s (right_at rights i) ++ strike_lines rights (i + 1) ss
@@ -79,12 +79,12 @@ abbrev pub how_many : (Verdict → Bool) → List Struck → ℕ
 how_many is [] = 0
 how_many is (s ∷ ss) = cond (is s.verdict) 1 0 + how_many is ss
 
--- the steps until a check fired; 0 where none did
+-- the steps until a check fired; 0 if none did
 abbrev pub fired_steps : Verdict → ℕ
 fired_steps (Fired k) = k
 fired_steps _ = 0
 
--- the greatest number of steps until a check fired; 0 where none did
+-- the greatest number of steps until a check fired; 0 if none did
 abbrev pub longest : List Struck → ℕ
 longest [] = 0
 longest (s ∷ ss) = max (fired_steps s.verdict) (longest ss)
@@ -94,7 +94,7 @@ abbrev pub how_many_right : List Bool → ℕ
 how_many_right [] = 0
 how_many_right (right ∷ rights) = cond right 1 0 + how_many_right rights
 
--- how many of n ends were right and wrong, where that is told
+-- how many of n ends were right and wrong, if that is asked for
 abbrev pub ends_text : ℕ → Option ℕ → List ℕ
 ends_text n None = decimal n
 ends_text n (Some right) = decimal n ++ (codes " (" ++ (decimal right ++ (codes " right, " ++ (decimal (n - right) ++ codes " wrong)"))))
@@ -111,7 +111,7 @@ abbrev pub summary_line : Option (List Bool) → List Struck → Plan → List �
 summary_line rights ss plan =
     verdicts_text rights ss ++ (codes ", longest " ++ (decimal (longest ss) ++ (codes ", " ++ (bounds_text plan.bounds.register plan.bounds.word ++ codes "\n"))))
 
--- the input's own run trapped, so that no more can be said
+-- the input's own run trapped: no verdict is possible
 abbrev pub trapped_line : ℕ → List ℕ
 trapped_line pc = codes "input trapped at " ++ (hex_text pc ++ codes "\n")
 

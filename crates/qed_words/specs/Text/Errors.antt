@@ -1,4 +1,4 @@
--- What is printed where a file is refused or exceeds a limit. Each line ends with a newline.
+-- What is printed if a file is refused or exceeds a limit. Each line ends with a newline.
 use Rattle.std.specs.Prelude.{ℕ, List, ◌++◌, codes, if◌then◌else◌}
 use Rattle.std.specs.Fmt.{decimal}
 use Rattle.machine.specs.declared.limits.Limit.{Limit}
@@ -14,7 +14,7 @@ use Rattle.elf_types.specs.declared.error.Part.TheVariants as part
 abbrev pub numbered : List ℕ → ℕ → List ℕ
 numbered front n = front ++ (decimal n ++ codes "\n")
 
--- a limit by its name and number, the counted number where it is printed, and the greatest that is taken
+-- a limit by its name and number, the counted number if it is printed, and the greatest allowed
 abbrev pub limit_line : Limit → ℕ → List ℕ
 limit_line l n =
     if is_counted l
@@ -28,7 +28,7 @@ part_line part.SectionTable = codes "refused E8: section table\n"
 part_line (part.Segment i) = numbered (codes "refused E8: segment ") i
 part_line (part.Section i) = numbered (codes "refused E8: section ") i
 
--- nothing is printed for want of memory
+-- want of memory prints nothing
 abbrev pub error_line : ElfError → List ℕ
 error_line error.Magic = codes "refused E1: magic\n"
 error_line (error.Class n) = numbered (codes "refused E2: class ") n

@@ -23,7 +23,7 @@ outcome_text Ended = codes "ended"
 outcome_text Fired = codes "fired"
 outcome_text (Trapped c pc) = codes "trapped " ++ cause_text c
 
--- how the run stands, after how many steps, at which pc
+-- how the run ended, after how many steps, at which pc
 abbrev pub outcome_line : Progress → List ℕ
 outcome_line p = outcome_text p.state.outcome ++ (codes " after " ++ (decimal p.steps ++ (codes " steps at " ++ (hex_text p.state.pc ++ codes "\n"))))
 
@@ -36,7 +36,7 @@ unfoldable pub register_lines : State → ℕ → List ℕ
 register_lines s zero = []
 register_lines s (suc n) = register_lines s n ++ register_line s (suc n)
 
--- a byte in two digits, and `--` where it is not mapped
+-- a byte in two digits; `--` if it is not mapped
 abbrev pub byte_text : Option ℕ → List ℕ
 byte_text None = codes " --"
 byte_text (Some b) = codes " " ++ hex_digits 2 b
@@ -64,11 +64,11 @@ dump_text m (Some d) = dump_lines m d.0 d.1 ((d.1 + 15) / 16)
 abbrev pub run_lines : Progress → List ℕ
 run_lines p = outcome_line p ++ register_lines p.state 31
 
--- the first jump by register that led to an address that is not reached, by its own address and that one; or there was none
+-- the first indirect jump to an address that is not reached: where it stands and its target; or that there was none
 abbrev pub jumps_line : Option (ℕ × ℕ) → List ℕ
 jumps_line None = codes "jumps reached\n"
 jumps_line (Some j) = codes "jump at " ++ (hex_text j.0 ++ (codes " to " ++ (hex_text j.1 ++ codes " not reached\n")))
 
--- the same, with a text about jumps behind the outcome, which may be empty, and what a dump shows
+-- a run with a text about jumps behind the outcome, which may be empty, and a dump
 abbrev pub run_text : Progress → List ℕ → Option (ℕ × ℕ) → List ℕ
 run_text p jumps dump = outcome_line p ++ jumps ++ register_lines p.state 31 ++ dump_text p.state.memory dump

@@ -1,4 +1,4 @@
--- What is printed where the words of the command line ask for nothing. Each line ends with a newline.
+-- What is printed if the words of the command line ask for nothing. Each line ends with a newline.
 use Rattle.std.specs.Prelude.{ℕ, List, ◌++◌, codes}
 use Rattle.qed_words.specs.declared.orders.Key.{Key}
 use Rattle.qed_words.specs.declared.orders.Reason.{Reason}

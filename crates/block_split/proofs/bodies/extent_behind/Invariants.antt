@@ -3,7 +3,7 @@ use Rattle.machine.specs.Numbers.{is_at}
 use Rattle.block_split.specs.Bodies.{size_behind, end_behind}
 use Rattle.block_split.proofs.bodies.extent_behind.Given as goal
 
--- those so far belong to the body, and the rest decides
+-- the words so far belong to the body, and the rest decides
 abbrev pub invariant-loop-word : goal.invariant-loop-word
 invariant-loop-word l = record {
   counted : l.size ≡ l.word-index;

@@ -5,7 +5,7 @@ use Rattle.qed_model.specs.Weave.Pieces.{AreRuns, run_lengths, whole}
 use Rattle.block_split.specs.Lengths.{MakeUp}
 use Rattle.block_split.proofs.pieces.split.Given as goal
 
--- with the runs of the rest, those so far make up the body
+-- the runs so far, with those of the rest, make up the body
 abbrev pub invariant-loop-at : goal.invariant-loop-at
 invariant-loop-at l = record {
   within : l.at ≤ length l.body;

@@ -4,7 +4,7 @@ use Rattle.qed_model.specs.Weave.Pieces.{is_run}
 use Rattle.block_split.specs.Lengths.{written_by}
 use Rattle.block_split.proofs.runs.run_length.Given as goal
 
--- those so far are a run, and what they write is noted
+-- the instructions so far are a run, and the registers that they write are noted
 abbrev pub invariant-loop-instruction : goal.invariant-loop-instruction
 invariant-loop-instruction l = record {
   counted : l.count ≡ l.instruction-index;

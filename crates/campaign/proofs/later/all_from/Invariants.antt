@@ -2,6 +2,6 @@ use Rattle.std.proofs.Common.{◌≡◌, ◌++◌, map, drop}
 use Rattle.campaign.specs.Later.{counted_from}
 use Rattle.campaign.proofs.later.all_from.Given as goal
 
--- those so far, and then those of the rest, are all
+-- the changes so far, and those of the rest, are all
 abbrev pub invariant-loop-change : goal.invariant-loop-change
 invariant-loop-change l = l.later.items ++ map (counted_from l.start) (drop l.change-index l.changes) ≡ map (counted_from l.start) l.changes

@@ -4,7 +4,7 @@ use Rattle.tests.specs.Admission.DataRanges.{range_of}
 use Rattle.campaign.specs.Right.{same_bytes}
 use Rattle.campaign.proofs.right.same_data.Given as goal
 
--- those of the rest are the same where all are
+-- if all ranges agree, so do those of the rest
 abbrev pub invariant-loop-range : goal.invariant-loop-range
 invariant-loop-range l =
     list_all (same_bytes l.a.state.memory l.b.state.memory) (map range_of (drop l.range-index l.ranges))

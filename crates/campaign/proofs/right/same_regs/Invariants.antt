@@ -4,6 +4,6 @@ use Rattle.machine.specs.Step.{reg}
 use Rattle.campaign.specs.Right.{same_from}
 use Rattle.campaign.proofs.right.same_regs.Given as goal
 
--- those of the rest are the same where all are
+-- if all registers agree, so do those of the rest
 abbrev pub invariant-loop-number : goal.invariant-loop-number
 invariant-loop-number l = same_from (reg l.a.state) (reg l.b.state) l.number (14 - l.number) ≡ same_from (reg l.a.state) (reg l.b.state) 1 ORIGINALS

@@ -2,7 +2,7 @@ use Rattle.std.proofs.Common.{◌≡◌, ◌+◌, ◌*◌}
 use Rattle.machine.specs.Progress.{progress}
 use Rattle.fault_inject.proofs.runs.run_on.Given as goal
 
--- so many parts were made, and told
+-- the parts so far were made, and reported
 abbrev pub invariant-loop-parts : goal.invariant-loop-parts
 invariant-loop-parts g l = record {
   made : l.machine ≡ progress l.initial.machine (16777216 * l.parts);

@@ -4,7 +4,7 @@ use Rattle.fault_inject.specs.Astray.{first_astray}
 use Rattle.fault_inject.proofs.Changing.{Reached}
 use Rattle.fault_inject.proofs.watch.run_watched.Given as goal
 
--- the changes so far were made, by the step of the last of them, and told, and what was found is the first of these steps
+-- the changes so far were made, by the step of the last, and reported; what was found is the first jump astray so far
 abbrev pub invariant-loop-change : goal.invariant-loop-change
 invariant-loop-change g l = record {
   made : Reached l.initial.machine l.changes l.change-index l.steps l.machine;

@@ -5,7 +5,7 @@ use Rattle.fault_inject.specs.Astray.{first_jump}
 use Rattle.fault_inject.proofs.Straying.{states}
 use Rattle.fault_inject.proofs.watch.watch_on.Given as goal
 
--- so many steps were made, no more are told, and what was found is the first of them
+-- the steps so far were made, no more are reported, and what was found is the first jump astray among them
 abbrev pub invariant-loop-made : goal.invariant-loop-made
 invariant-loop-made g l = record {
   made : l.machine ≡ progress l.initial.machine l.made;

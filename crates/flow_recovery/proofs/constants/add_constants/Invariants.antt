@@ -3,7 +3,7 @@ use Rattle.flow_recovery.specs.Found.{CoversBut}
 use Rattle.tests.specs.Admission.Reached.{is_made}
 use Rattle.flow_recovery.proofs.constants.add_constants.Given as goal
 
--- those of the rest are to come
+-- the constants of the words left are to come
 abbrev pub invariant-loop-left : goal.invariant-loop-left
 invariant-loop-left l =
     CoversBut l.code l.initial.found l.found

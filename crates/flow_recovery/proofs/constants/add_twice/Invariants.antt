@@ -4,6 +4,6 @@ use Rattle.flow_recovery.specs.Found.{Covers}
 use Rattle.tests.specs.Admission.Reached.{sums_lead}
 use Rattle.flow_recovery.proofs.constants.add_twice.Given as goal
 
--- those so far were added
+-- the sums with the words so far were added
 abbrev pub invariant-loop-word : goal.invariant-loop-word
 invariant-loop-word l = Covers l.code l.initial.found l.found (λ a. list_any (sums_lead l.code.test.now l.known.near.now l.known.register l.known.value a) (take l.word-index l.known.near.now))

@@ -3,7 +3,7 @@ use Rattle.std.specs.List.{list_any}
 use Rattle.flow_recovery.specs.Found.{Covers, sums_lead_on}
 use Rattle.flow_recovery.proofs.pointers.add_all_pointed.Given as goal
 
--- those of the values so far were added
+-- the sums of the values so far were added
 abbrev pub invariant-loop-value : goal.invariant-loop-value
 invariant-loop-value l = record {
   same : l.found.pointers ≡ l.initial.found.pointers;

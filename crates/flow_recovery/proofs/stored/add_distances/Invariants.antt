@@ -5,7 +5,7 @@ use Rattle.machine.specs.Numbers.{words_of}
 use Rattle.tests.specs.Admission.Reached.{is_in_table}
 use Rattle.flow_recovery.proofs.stored.add_distances.Given as goal
 
--- those of the rest are to come
+-- what the distances left lead to is to come
 abbrev pub invariant-loop-left : goal.invariant-loop-left
 invariant-loop-left l =
     GainsBut l.initial.set l.set

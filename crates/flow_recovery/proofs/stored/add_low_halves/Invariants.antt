@@ -5,7 +5,7 @@ use Rattle.machine.specs.Numbers.{words_of}
 use Rattle.tests.specs.Admission.Reached.{is_low_half}
 use Rattle.flow_recovery.proofs.stored.add_low_halves.Given as goal
 
--- those of the rest are to come
+-- the addresses in the words left are to come
 abbrev pub invariant-loop-left : goal.invariant-loop-left
 invariant-loop-left l =
     AddsBut l.initial.list.items l.list.items

@@ -5,7 +5,7 @@ use Rattle.flow_recovery.specs.Sets.{Adds}
 use Rattle.flow_recovery.specs.Words.{begins_by}
 use Rattle.flow_recovery.proofs.words.add_words.Given as goal
 
--- those so far were added
+-- the addresses for the words so far were added
 abbrev pub invariant-loop-word : goal.invariant-loop-word
 invariant-loop-word l = record {
   added : Adds l.initial.list.items l.list.items (λ a. list_any (λ c. begins_by l.options c a) (take l.word-index l.words));

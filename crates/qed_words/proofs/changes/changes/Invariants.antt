@@ -6,7 +6,7 @@ use Rattle.qed_model.specs.Promise.Changed.{with_change}
 use Rattle.qed_words.specs.Seen.{seen}
 use Rattle.qed_words.proofs.changes.changes.Given as goal
 
--- those so far, with those of the rest, are all
+-- the changes so far, with those of the rest, are all
 abbrev pub invariant-loop-argument : goal.invariant-loop-argument
 invariant-loop-argument l =
     fold with_change l.changes.items (filter_map fault (values Fault (map seen (drop l.argument-index l.arguments)))) ≡ changes_given (map seen l.arguments)

@@ -4,7 +4,7 @@ use Rattle.qed_model.specs.declared.plan.EntryRow.{EntryRow}
 use Rattle.qed_model.specs.Weave.Placed.{entry_at}
 use Rattle.relinker.proofs.search.below.Given as goal
 
--- what is left below `low` is below the address, and what stands at `high` is not
+-- all rows below `low` are below the address, and the row at `high` is not
 abbrev pub invariant-loop-low : goal.invariant-loop-low
 invariant-loop-low l = record {
   order : l.low ≤ l.high;

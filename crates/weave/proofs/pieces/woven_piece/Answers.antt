@@ -4,11 +4,11 @@ use Rattle.qed_model.specs.Weave.Forms.{mirror_of}
 use Rattle.weave.specs.Piece.{for_piece, piece_is, piece_same, piece_laws, honest_any, lockstep_any}
 use Rattle.weave.proofs.pieces.woven_piece.Goals as goal
 
--- each of the passes is for any form of the code
+-- each pass suits any form of the code
 abbrev suits : Bool → Type 0
 suits far = Unit {0} × (Unit {0} × (Unit {0} × Unit {0}))
 
--- the passes are for what fits
+-- the passes accept what fits
 pub emitted-requires : goal.emitted-requires
 emitted-requires c = let f = for_piece c.args.list.now c.args.first c.requires.fits in (f.0, (f.1, ((tt, tt, refl), refl)))
 
@@ -16,7 +16,7 @@ emitted-requires c = let f = for_piece c.args.list.now c.args.first c.requires.f
 pub returns-clause-woven : goal.returns-clause-woven
 returns-clause-woven c = λ form m r s. c.in_ok-out.ensures.items ∙ piece_same (mirror_of c.args.passes.now.second.first.pass.diverse) (sym r) (sym s) c.args.list.now c.args.first ∙ piece_is (mirror_of c.args.passes.now.second.first.pass.diverse) form c.args.list.now c.args.first m c.requires.low
 
--- and their laws are those of the piece
+-- the laws of the passes are those of the piece
 pub returns-clause-leads : goal.returns-clause-leads
 returns-clause-leads c = piece_laws suits (λ far. (tt, (tt, (tt, tt)))) c.args.passes.now.second.first.pass.diverse c.args.passes.now.second.second.pass.second.round (spans_of c.args.passes.now.second.second.pass.second.span) c.in_ok-out.out c.args.list.now c.args.first c.in_ok-out.ensures.quiet
 

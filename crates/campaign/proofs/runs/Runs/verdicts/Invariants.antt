@@ -3,7 +3,7 @@ use Rattle.machine.specs.Step.{run}
 use Rattle.campaign.specs.Struck.{AreKnown}
 use Rattle.campaign.proofs.runs.Runs.verdicts.Given as goal
 
--- what is known so far, and the output where the last strike began
+-- the verdicts so far, and the output where the last strike began
 abbrev pub invariant-loop-i : goal.invariant-loop-i
 invariant-loop-i g l = record {
   known : AreKnown l.self l.strikes l.found.items;

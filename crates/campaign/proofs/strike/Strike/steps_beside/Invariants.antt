@@ -2,7 +2,7 @@ use Rattle.std.proofs.Common.{◌*◌, ◌≤◌}
 use Rattle.campaign.specs.Found.{IsOn, State}
 use Rattle.campaign.proofs.strike.Strike.steps_beside.Given as goal
 
--- so many steps were made, no more than up to the copy before
+-- this many steps were made, at most up to the copy before
 abbrev pub invariant-loop-number : goal.invariant-loop-number
 invariant-loop-number l = record {
   on : (s : State) → IsOn s l.from l.initial.machine.state → IsOn s l.made l.machine.state;

@@ -4,6 +4,6 @@ use Rattle.harts.specs.Harts.{Hart}
 use Rattle.rv_step.specs.Known.{goes_on}
 use Rattle.harts.proofs.world.World.one_goes_on.Given as goal
 
--- those so far do not go on
+-- the harts so far do not go on
 abbrev pub invariant-loop-hart : goal.invariant-loop-hart
 invariant-loop-hart l = (k : ℕ) (h : Hart) → k < l.hart-index → slice_get l.self.world.harts (slice_index l.harts k) ≡ Some h → goes_on h.outcome ≡ false

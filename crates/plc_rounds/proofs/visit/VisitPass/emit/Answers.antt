@@ -5,7 +5,7 @@ use Rattle.plc_rounds.specs.Spans.{spans_of}
 use Rattle.plc_rounds.specs.Laws.{times_part}
 use Rattle.plc_rounds.proofs.visit.VisitPass.emit.Goals as goal
 
--- of the word that was begun a part is there
+-- the visit that was begun has a first part of its words
 pub returns-in_err-put_word-clause-part : goal.returns-in_err-put_word-clause-part
 returns-in_err-put_word-clause-part c =
     let spans = spans_of c.args.self.now.span in

@@ -8,7 +8,7 @@ use Rattle.weave.specs.Form.{form}
 use Rattle.weave.proofs.Joined.{append_five}
 use Rattle.weave.proofs.weaver.Weaver.prologue.Goals as goal
 
--- the parts one after the other
+-- the parts, one after another
 pub returns : goal.returns
 returns c =
     append_five c.args.out.now c.put_zeros.new.out c.put_zeros-2.new.out c.put_half.new.out c.put_cursor.new.out c.go_on.new.out (zero_from 1 ORIGINALS) (zero_from 17 ORIGINALS) (Plain (ins Lui DISTANCE 0 0 (pos c.args.distance)) ∷ []) (cursor (form c.args.self.now).spans) (go_on c.args.entry)

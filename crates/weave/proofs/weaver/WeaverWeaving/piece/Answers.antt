@@ -16,7 +16,7 @@ halves f is at = each_parts role.Original original is at ++ each_parts role.Mirr
 abbrev behind : Form → List Ins → ℕ → List (Role × List Item)
 behind f is at = (role.Visit at (last_of is at), compare ++ visit f.round f.spans) ∷ []
 
--- the halves come first, and then what stands behind
+-- the halves come first, then the rest of the piece
 halved :
     (old : Bool × ℕ → List (Role × List Item) → List (Role × List Item) → Type 0) (items : List Item) (f : Form) (is : List Ins) (at : ℕ) → Comes old items ((parts f).piece is at)
     → UpTo old old items ((parts f).piece is at) (halves f is at ++ behind f is at)
