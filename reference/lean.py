@@ -157,7 +157,7 @@ class Lean:
         if end.name == "jal":
             return [(role, link + self.goes(start, target))]
         if end.name == "jalr":
-            return [(role, [*words_of(f"add x16, x16, x{pair(end.rs1)}; addi x16, x16, {end.imm}; andi x16, x16, -2"), Const(T, start),
+            return [(role, [*words_of(f"addi x30, x{pair(end.rs1)}, {end.imm}; andi x30, x30, -2; add x16, x16, x30"), Const(T, start),
                             *words_of("sub x16, x16, x30")]),
                     *self.distance("leave guard", (at,)), *guards("leave guard", (at,), (end.rs1,)),
                     (role, [*words_of(f"addi x30, x{end.rs1}, {end.imm}; andi x30, x30, -2; beq x16, x30, 8; ebreak"),

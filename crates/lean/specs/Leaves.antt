@@ -3,14 +3,14 @@ use Rattle.std.specs.Prelude.{ℕ, ◌+◌, ◌-◌, ◌%◌, ◌^◌, Bool, fal
 use Rattle.rv_isa.specs.declared.class.Class.TheVariants as class
 use Rattle.qed_model.specs.declared.item.Item.{Item}
 use Rattle.qed_model.specs.declared.item.Item.TheVariants.{Plain}
-use Rattle.machine.specs.Step.{target, Ins, Class, class_of, ins, Addi, Andi}
+use Rattle.machine.specs.Step.{target, Ins, Class, class_of, ins}
 use Rattle.machine.specs.Offsets.{distance_between}
 use Rattle.qed_model.specs.declared.role.Role.{Role}
 use Rattle.qed_model.specs.declared.role.Role.TheVariants as role
 use Rattle.weave.specs.Leaves.{is_end}
 use Rattle.qed_model.specs.Weave.Placed.{sum_of_sizes}
 use Rattle.qed_model.specs.Weave.Sequences.{Form, End, Falls, Stops, sweep, compare, before_end, guard, links, check_sign, TEMPORARY}
-use Rattle.qed_model.specs.Weave.Lean.{turn, opposite, taken, called, check_distance, look_up, look_again, leave_as}
+use Rattle.qed_model.specs.Weave.Lean.{turn, opposite, taken, take_target, called, check_distance, look_up, look_again, leave_as}
 
 -- ---- parts
 -- what stands before an ECALL besides, with the sweep
@@ -31,7 +31,7 @@ leap d i at = called ++ (links i at ++ (look_up TEMPORARY ++ look_again d))
 
 -- the target by the original, and the jump there
 abbrev pub aim : ℕ → Ins → ℕ → List Item
-aim d i at = Plain (ins Addi TEMPORARY i.rs1 0 i.imm) ∷ Plain (ins Andi TEMPORARY TEMPORARY 0 (neg_ℤ (pos 2))) ∷ leap d i at
+aim d i at = take_target i i.rs1 ++ leap d i at
 
 -- a JALR from the test of the distance on: the guard of the original
 abbrev pub guarded_leap : ℕ → Ins → ℕ → List Item

@@ -1,11 +1,10 @@
 -- What the lean form promises of a jump that goes astray: where the code of a block runs under another signature, the run is over soon.
-use Rattle.std.specs.Prelude.{◌≡◌, ℕ, ◌+◌, ◌*◌, ◌/◌, ◌%◌, ◌^◌, ◌≤◌, ◌⊎◌, Bool, true, false, List}
-use Rattle.tests.specs.Admission.Leaders.{is_indirect}
+use Rattle.std.specs.Prelude.{◌≡◌, ℕ, ◌+◌, ◌*◌, ◌/◌, ◌≤◌, ◌⊎◌, true, false, List}
 use Rattle.machine.specs.Members.{Among}
 use Rattle.machine.specs.declared.outcome.Outcome.{Outcome}
 use Rattle.machine.specs.declared.outcome.Outcome.TheVariants.{Going, Fired}
 use Rattle.machine.specs.Program.{Program, AreStartRegs}
-use Rattle.machine.specs.Step.{State, reg, run, class_of}
+use Rattle.machine.specs.Step.{State, reg, run}
 use Rattle.qed_model.specs.Promise.Kept.{is_trapped, after_output}
 use Rattle.qed_model.specs.Promise.Landed.{placed_at}
 use Rattle.qed_model.specs.Weave.Blocks.{begins_at, ElfFile, Options}
@@ -14,7 +13,7 @@ use Rattle.qed_model.specs.Weave.Forms.{form_of}
 use Rattle.qed_model.specs.Weave.LeanCode.{lean_items, lean_of, worded}
 use Rattle.tests.specs.Admission.Places.{base_of, image_of, code_place}
 use Rattle.qed_model.specs.Weave.Placed.{sum_of_sizes, entry_of}
-use Rattle.qed_model.specs.Weave.Sequences.{End, Falls, Stops, Block, SIGNATURE}
+use Rattle.qed_model.specs.Weave.Sequences.{Block, SIGNATURE}
 
 -- ---- where a jump leads
 -- a word of the pieces of a block, or the first one behind them
@@ -22,18 +21,6 @@ pub record IsInside (s : Sequences) (entry : ℕ → ℕ) (b : Block) (q : ℕ) 
   pub words : ℕ
   pub within : 4 * words ≤ sum_of_sizes false (pieces_of s b.body b.start)
   pub there : q ≡ entry b.start + sum_of_sizes false (s.enter b.start) + 4 * words
-
--- a block that goes on where a register leads
-abbrev pub by_register : End → Bool
-by_register Falls = false
-by_register (Stops i) = is_indirect (class_of i.kind)
-
--- a signature that is not the address of a block with such an end. A block that goes on where a register leads clears the lowest bit of a sum with it, so there
--- it is not the address below or above either
-pub record IsOther (e : End) (a x : ℕ) : Type 0 where
-  pub apart : x ≡ a → ⊥
-  pub below : by_register e ≡ true → (x + 1) % 2 ^ 64 ≡ a → ⊥
-  pub above : by_register e ≡ true → x ≡ a + 1 → ⊥
 
 -- ---- what follows
 abbrev pub IsOver : Outcome → Type 0
@@ -52,7 +39,7 @@ steps_in s b = sum_of_sizes false (pieces_of s b.body b.start) / 4 + 19
 -- for any registers of the output's start: from any state of the run, the same state inside of a block under another signature is over within these steps
 pub record Strayed (g : Program) (s : Sequences) (entry : ℕ → ℕ) (blocks : List Block) : Type 0 where
   pub stops :
-      (regs : List ℕ) (t q : ℕ) (b : Block) → AreStartRegs regs → (after_output g regs t).outcome ≡ Going → Among b blocks → IsInside s entry b q → IsOther b.end b.start (reg (after_output g regs t) SIGNATURE)
+      (regs : List ℕ) (t q : ℕ) (b : Block) → AreStartRegs regs → (after_output g regs t).outcome ≡ Going → Among b blocks → IsInside s entry b q → (reg (after_output g regs t) SIGNATURE ≡ b.start → ⊥)
       → Stopped (steps_in s b) (placed_at q (after_output g regs t))
 
 -- ---- of a file in the lean form

@@ -1,6 +1,7 @@
 -- The lean form as a weave, and what is asked of the words and the table that it is woven in.
 use Rattle.std.specs.Prelude.{◌≡◌, ℕ, ◌+◌, ◌*◌, ◌%◌, ◌^◌, ◌<◌, ◌≤◌, Bool, true, false, cond, ◌==◌, ◌&&◌, ◌||◌, nat_le, List, [], ◌∷◌, length}
 use Rattle.tests.specs.Admission.DataRanges.{word_count}
+use Rattle.tests.specs.Admission.Leaders.{is_indirect}
 use Rattle.qed_model.specs.Weave.Bounds.{end_bound}
 use Rattle.qed_model.specs.Weave.Pieces.{is_run}
 use Rattle.qed_model.specs.Weave.Placed.{sum_of_sizes}
@@ -23,7 +24,7 @@ use Rattle.weave_core.specs.Leaving.{sweep_cost}
 use Rattle.weave_core.specs.World.{World, Known, Ins, class_of, Program}
 use Rattle.weave_core.specs.Blocks.{IsEntryOf, TableAt}
 use Rattle.weave_core.specs.Weave.{Weave}
-use Rattle.lean.specs.Strayed.{Strayed, by_register}
+use Rattle.lean.specs.Strayed.{Strayed}
 use Rattle.lean.specs.Ticked.{is_ticked_at}
 
 -- the most steps of the check, with the look-ups behind it
@@ -52,8 +53,8 @@ weave_of w l leader = record {
   held = is_ticked_at l.every;
 }
 
--- the code is near, the halves are not too far from each other, the check stands in its place, from each entry there are fewer steps to the next tick than from
--- check to check, and each leader has code, on its grain, its entry, and its place in the table
+-- The code is near, the halves are not too far from each other, and the check stands in its place. From each entry there are fewer steps to the next tick
+-- than from check to check. Each leader has code, on its grain, its entry, and its place in the table
 pub record LeanIn (w : World) (l : Lean) (leader : ℕ → Bool) : Type 0 where
   pub near : w.form.far ≡ false
   pub small : w.distance ≤ 2 ^ 32
@@ -85,6 +86,11 @@ InOrder leader (b ∷ bs) = ((t : ℕ) → goes_on b.end (end_at b) t ≡ true �
 -- what the tick before an entry has counted of the steps behind it: none, where it has its own
 abbrev pub owed : Lean → ℕ → ℕ
 owed l t = cond (l.ticks t) 0 (l.most t)
+
+-- a block that goes on where a register leads
+abbrev pub by_register : End → Bool
+by_register Falls = false
+by_register (Stops i) = is_indirect (class_of i.kind)
 
 -- where a block may go on: an end that is a jump by register may lead anywhere
 abbrev pub may_lead : End → ℕ → ℕ → Bool

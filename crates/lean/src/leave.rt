@@ -5,7 +5,7 @@ ghost use Rattle.rv_isa.specs.Kind.{class_of};
 ghost use Rattle.machine.specs.Step.{target as target_of};
 ghost use Rattle.qed_model.specs.Weave.Blocks.{begins_at as begins};
 ghost use Rattle.qed_model.specs.Weave.Sequences.{guard, links};
-ghost use Rattle.qed_model.specs.Weave.Lean.{opposite as opposite_of, check_way, taken, turn_leap, goes};
+ghost use Rattle.qed_model.specs.Weave.Lean.{opposite as opposite_of, check_way, taken, take_target, turn_leap, goes};
 ghost use Rattle.qed_model.specs.Weave.LeanCode.{fall_words};
 ghost use Rattle.plc_rounds.specs.Spans.{spans_of};
 ghost use Rattle.block_split.specs.Listed.{block_of, end_of};
@@ -25,7 +25,7 @@ use passes::{Emit, plain, put_guard, target};
 use qed_model::{Item, Range, Role};
 use relinker::ItemSink;
 use rv_isa::profile::{SIGNATURE, TEMPORARY};
-use rv_isa::{Class, Ins, Kind, register};
+use rv_isa::{Class, Ins, Kind, Reg, register};
 use std::alloc::AllocError;
 use weave::{PartSink, is_end};
 
@@ -194,16 +194,27 @@ fn put_branch(
     put_missed(blocks, ins, start, at.wrapping_add(4), out)
 }
 
+/// Takes the target of a JALR by a register, its own or the pair.
+fn put_target(ins: &Ins, from: Reg, out: &mut Emit) -> Result<(), AllocError>
+    ensures { OnOk result (out.new ≡ out.old ++ take_target ins.now from) }
+{
+    let (zero, to) = (register(0), register(TEMPORARY));
+    out.put(&[
+        plain(Kind::Addi, to, from, zero, ins.imm),
+        plain(Kind::Andi, to, to, zero, -2),
+    ])?;
+    Ok(())
+}
+
 /// Turns the signature to the target of a JALR by the pair.
 fn put_turn_leap(ins: &Ins, start: u64, out: &mut Emit) -> Result<(), AllocError>
     requires { FitsLeave class.JumpReg ins.now }
     ensures { OnOk result (out.new ≡ out.old ++ turn_leap ins.now start) }
 {
-    let (zero, sign, address) = (register(0), register(SIGNATURE), register(TEMPORARY));
+    put_target(ins, ins.rs1.pair(), out)?;
+    let (sign, address) = (register(SIGNATURE), register(TEMPORARY));
     out.put(&[
-        plain(Kind::Add, sign, sign, ins.rs1.pair(), 0),
-        plain(Kind::Addi, sign, sign, zero, ins.imm),
-        plain(Kind::Andi, sign, sign, zero, -2),
+        plain(Kind::Add, sign, sign, address, 0),
         Item::Constant(address, start),
         plain(Kind::Sub, sign, sign, address, 0),
     ])?;
@@ -228,11 +239,7 @@ fn put_aim(distance: u64, ins: &Ins, at: u64, out: &mut Emit) -> Result<(), Allo
     requires fits { FitsLeave class.JumpReg ins.now }
     ensures { OnOk result (out.new ≡ out.old ++ aim distance ins.now at) }
 {
-    let (zero, to) = (register(0), register(TEMPORARY));
-    out.put(&[
-        plain(Kind::Addi, to, ins.rs1, zero, ins.imm),
-        plain(Kind::Andi, to, to, zero, -2),
-    ])?;
+    put_target(ins, ins.rs1, out)?;
     put_leap(distance, ins, at, out)
 }
 

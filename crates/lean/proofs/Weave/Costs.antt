@@ -10,7 +10,7 @@ use Rattle.tests.specs.Admission.Leaders.{is_end}
 use Rattle.qed_model.specs.Weave.LeanBounds.{cost_of, entry_steps}
 use Rattle.qed_model.specs.Weave.Sequences.{End, Falls, Stops, body_length, fired_check, guard, links, PAIR_DISTANCE, SIGNATURE, TEMPORARY, pair, class_of}
 use Rattle.qed_model.specs.Weave.Costs.{cost_each, original_cost, spent, mirror_steps}
-use Rattle.qed_model.specs.Weave.Lean.{call_at, is_short, turn_by, turn, goes, check_way, called, look_up, look_again, leave_as, is_break, cost, leave_cost, leave_cost_as}
+use Rattle.qed_model.specs.Weave.Lean.{call_at, is_short, turn_by, turn, goes, check_way, take_target, called, look_up, look_again, leave_as, is_break, cost, leave_cost, leave_cost_as}
 use Rattle.qed_model.specs.Weave.LeanCode.{is_store, store_steps, both_steps, mirror_steps_of, body_steps, fall_to}
 use Rattle.weave_core.specs.World.{World, Item, Mark, Plain, Constant, Go, target, Kind, Class}
 use Rattle.weave_core.specs.Blocks.{Leaves, EndStands}
@@ -128,7 +128,7 @@ leap_cost leader i a at =
     let some : List Item = look_up TEMPORARY ++ look_again 0 in
     let b = guard_most i.rs1 in
     let c = links_most i at in
-    let e = cost_append (guard i.rs1) (Plain (ins Addi TEMPORARY i.rs1 0 i.imm) ∷ Plain (ins Andi TEMPORARY TEMPORARY 0 (neg_ℤ (pos 2))) ∷ (called ++ (links i at ++ some))) in
+    let e = cost_append (guard i.rs1) (take_target i i.rs1 ++ (called ++ (links i at ++ some))) in
     let f = cost_append (links i at) some in
     omega (arith, b, c, e, f)
 

@@ -5,7 +5,7 @@ use Rattle.rv_isa.specs.declared.class.Class.TheVariants as class
 use Rattle.machine.specs.Table.{ins, Ins, Add, Addi, Andi, Sub}
 use Rattle.qed_model.specs.Promise.Kept.{NotTrapped}
 use Rattle.qed_model.specs.Weave.Sequences.{Reads, guard, links, LAST_ORIGINAL, CURSOR, SIGNATURE, TEMPORARY, pair}
-use Rattle.qed_model.specs.Weave.Lean.{turn_leap, called, check_distance, look_up, look_again, leave_as, cost}
+use Rattle.qed_model.specs.Weave.Lean.{take_target, turn_leap, called, check_distance, look_up, look_again, leave_as, cost}
 use Rattle.qed_model.specs.Weave.LeanCode.{fall_to}
 use Rattle.machine.proofs.Lemmas.{Over, over_moved, Walk, walk_none, walk_on}
 use Rattle.weave_core.specs.World.{World, Quiet, Twice, Item, Plain, State, reg, moved, imm, next_pc, Known, step, class_of, set_reg}
@@ -19,77 +19,72 @@ use Rattle.lean.proofs.Weave.Leave.{Went, guard_cost, linking, link_words}
 use Rattle.lean.proofs.Weave.Sign.{distance_set}
 
 -- taking the block's address away leaves the target
-leaves_target : (a x y : ℕ) → a % 2 ≡ 0 → a < 2 ^ 64 → (((a + x) % 2 ^ 64 + y) % 2 ^ 64 / 2 * 2 + (2 ^ 64 - a)) % 2 ^ 64 ≡ (x + y) % 2 ^ 64 / 2 * 2
-leaves_target a x y ea low = omega (arith, ea, low)
+leaves_target : (a n : ℕ) → a < 2 ^ 64 → ((a + n % 2 ^ 64 / 2 * 2) % 2 ^ 64 + (2 ^ 64 - a)) % 2 ^ 64 ≡ n % 2 ^ 64 / 2 * 2
+leaves_target a n low = omega (arith, low)
 
 -- ---- the words of the leave, in the block at a, for a signature and a value of the register
 module _ (i : Ins) (a sign value : ℕ) where
   abbrev pub sum : ℕ
   sum = (value + imm i) % 2 ^ 64
 
-  -- the signature on the way
-  abbrev v1 : ℕ
-  v1 = (sign + value) % 2 ^ 64
+  abbrev pub goal : ℕ
+  goal = sum / 2 * 2
 
-  abbrev v2 : ℕ
-  v2 = (v1 + imm i) % 2 ^ 64
+  -- ---- the target, by the original or by the pair, before other words
+  abbrev pub aim_ops : ℕ → List Op → List Op
+  aim_ops r rest = plain (ins Addi TEMPORARY r 0 i.imm) sum ∷ plain (ins Andi TEMPORARY TEMPORARY 0 (neg_ℤ (pos 2))) goal ∷ rest
 
-  abbrev pub signed : ℕ
-  signed = (v2 / 2 * 2 + (2 ^ 64 - a)) % 2 ^ 64
+  abbrev pub aimed_at : List (ℕ × ℕ)
+  aimed_at = (30, sum) ∷ (30, goal) ∷ []
 
-  abbrev pub turn_ops : List Op
-  turn_ops =
-      plain (ins Add SIGNATURE SIGNATURE (pair i.rs1) (pos 0)) v1 ∷ plain (ins Addi SIGNATURE SIGNATURE 0 i.imm) v2 ∷ plain (ins Andi SIGNATURE SIGNATURE 0 (neg_ℤ (pos 2))) (v2 / 2 * 2) ∷ constant 30 a ∷
-      plain (ins Sub SIGNATURE SIGNATURE TEMPORARY (pos 0)) signed ∷ []
-
-  pub turn_gives : (u : State) → length u.regs ≡ 32 → reg u SIGNATURE ≡ sign → reg u (pair i.rs1) ≡ value → a < 2 ^ 64 → Gives u u.regs turn_ops
-  turn_gives u long at is low =
-      let l = u.regs in
-      let e1 : List (ℕ × ℕ) = (16, v1) ∷ [] in
-      let e2 : List (ℕ × ℕ) = (16, v1) ∷ (16, v2) ∷ [] in
-      let e4 : List (ℕ × ℕ) = (16, v1) ∷ (16, v2) ∷ (16, v2 / 2 * 2) ∷ (30, a) ∷ [] in (
-        refl,
-        λ e. absurd (cc),
-        λ p. add_result (moved l p u) 16 16 (pair i.rs1) sign value v1 at is refl,
-        (
-          refl,
-          λ e. absurd (cc),
-          λ p. addi_value (moved (writes e1 l) p u) 16 16 v1 v2 i.imm (read_back e1 l 16 long refl) refl,
-          (
-            refl,
-            λ e. absurd (cc),
-            λ p. andi_value (moved (writes e2 l) p u) 16 v2 (read_back e2 l 16 long refl) (omega arith),
-            (
-              low,
-              omega arith,
-              refl,
-              (
-                refl,
-                λ e. absurd (cc),
-                λ p. sub_result (moved (writes e4 l) p u) 16 16 30 (v2 / 2 * 2) a signed (read_back e4 l 16 long refl) (read_back e4 l 30 long refl) refl,
-                tt,
-              ),
-            ),
-          ),
-        ),
-      )
-
-  -- ---- the target
-  abbrev pub aim_ops : List Op
-  aim_ops = plain (ins Addi TEMPORARY i.rs1 0 i.imm) sum ∷ plain (ins Andi TEMPORARY TEMPORARY 0 (neg_ℤ (pos 2))) (sum / 2 * 2) ∷ []
-
-  pub aim_gives : (y : State) → length y.regs ≡ 32 → reg y i.rs1 ≡ value → Gives y y.regs aim_ops
-  aim_gives y long at1 =
+  pub aim_gives : (y : State) (r : ℕ) (rest : List Op) → length y.regs ≡ 32 → reg y r ≡ value → Gives y (writes aimed_at y.regs) rest → Gives y y.regs (aim_ops r rest)
+  aim_gives y r rest long at behind =
       let l = y.regs in
       let e1 : List (ℕ × ℕ) = (30, sum) ∷ [] in (
         refl,
         λ e. absurd (cc),
-        λ p. addi_value (moved l p y) 30 i.rs1 value sum i.imm at1 refl,
+        λ p. addi_value (moved l p y) 30 r value sum i.imm at refl,
         (
           refl,
           λ e. absurd (cc),
           λ p. andi_value (moved (writes e1 l) p y) 30 sum (read_back e1 l 30 long refl) (omega arith),
-          tt,
+          behind,
+        ),
+      )
+
+  -- ---- the signature
+  abbrev v1 : ℕ
+  v1 = (sign + goal) % 2 ^ 64
+
+  abbrev pub signed : ℕ
+  signed = (v1 + (2 ^ 64 - a)) % 2 ^ 64
+
+  abbrev sign_ops : List Op
+  sign_ops = plain (ins Add SIGNATURE SIGNATURE TEMPORARY (pos 0)) v1 ∷ constant 30 a ∷ plain (ins Sub SIGNATURE SIGNATURE TEMPORARY (pos 0)) signed ∷ []
+
+  abbrev pub turn_ops : List Op
+  turn_ops = aim_ops (pair i.rs1) sign_ops
+
+  pub turn_gives : (u : State) → length u.regs ≡ 32 → reg u SIGNATURE ≡ sign → reg u (pair i.rs1) ≡ value → a < 2 ^ 64 → Gives u u.regs turn_ops
+  turn_gives u long at is low =
+      let l = u.regs in
+      let e2 = aimed_at in
+      let e4 : List (ℕ × ℕ) = (30, sum) ∷ (30, goal) ∷ (16, v1) ∷ (30, a) ∷ [] in
+      aim_gives u (pair i.rs1) sign_ops long is
+      (
+        refl,
+        λ e. absurd (cc),
+        λ p. add_result (moved (writes e2 l) p u) 16 16 30 sign goal v1 (read_back e2 l 16 long refl ∙ at) (read_back e2 l 30 long refl) refl,
+        (
+          low,
+          omega arith,
+          refl,
+          (
+            refl,
+            λ e. absurd (cc),
+            λ p. sub_result (moved (writes e4 l) p u) 16 16 30 v1 a signed (read_back e4 l 16 long refl) (read_back e4 l 30 long refl) refl,
+            tt,
+          ),
         ),
       )
 
@@ -103,7 +98,6 @@ module _ (w : World) (leader : ℕ → Bool) (entries : (a : ℕ) → leader a �
     pub there : Goes w leader (aim s i)
     pub table : leader (aim s i) ≡ true → TableAt w (aim s i)
     pub low : a < 2 ^ 64
-    pub even : a % 2 ≡ 0
     pub sign : reg u SIGNATURE ≡ a
 
   module _ (small : w.distance < 2 ^ 64) (u s : State) (i : Ins) (a : ℕ) (x : Leaping u s i a) where
@@ -166,7 +160,7 @@ module _ (w : World) (leader : ℕ → Bool) (entries : (a : ℕ) → leader a �
           walk = walk_on (Quiet w) u x1 (moved (writes w2 l1) s2.pc u) 6 2 s1.walk s2.walk;
           reads = s2.reads;
           halved = halved_writes w x1 s s w2 s2.pc (all_temps w2 refl) h1;
-          sign = read_back w2 l1 16 long1 refl ∙ read_back w1 u.regs 16 long refl ∙ leaves_target a value (imm i) x.even x.low;
+          sign = read_back w2 l1 16 long1 refl ∙ read_back w1 u.regs 16 long refl ∙ leaves_target a (value + imm i) x.low;
           keeps = read_back w2 l1 15 long1 refl ∙ read_back w1 u.regs 15 long refl;
         }
 
@@ -175,8 +169,8 @@ module _ (w : World) (leader : ℕ → Bool) (entries : (a : ℕ) → leader a �
         let v = next_pc s in
         let tail4 = links i s.pc ++ looks in
         let tail3 = called ++ tail4 in
-        let tail2 = Plain (ins Addi TEMPORARY i.rs1 0 i.imm) ∷ Plain (ins Andi TEMPORARY TEMPORARY 0 (neg_ℤ (pos 2))) ∷ tail3 in
-        let aims = aim_ops i a a value in
+        let tail2 = take_target i i.rs1 ++ tail3 in
+        let aims = aim_ops i a a value i.rs1 [] in
         let t1 = turned (guard i.rs1 ++ tail2) x.at.reads in
         let l1 = t1.regs in
         let x1 = moved l1 t1.pc u in
@@ -186,7 +180,7 @@ module _ (w : World) (leader : ℕ → Bool) (entries : (a : ℕ) → leader a �
         let x2 = moved l1 g.pc u in
         let o2 = over_moved w.code u l1 g.pc x.at.over in
         let h2 = halved_moved w x1 s s g.pc h1 in
-        let s3 = chain w x2 tail3 o2 aims h2.output.regs (aim_gives i a a value x2 h2.output.regs (h2.originals i.rs1 x.first)) g.reads in
+        let s3 = chain w x2 tail3 o2 aims h2.output.regs (aim_gives i a a value x2 i.rs1 [] h2.output.regs (h2.originals i.rs1 x.first) tt) g.reads in
         let w3 = effects aims in
         let l3 = writes w3 l1 in
         let x3 = moved l3 s3.pc u in
@@ -221,7 +215,7 @@ module _ (w : World) (leader : ℕ → Bool) (entries : (a : ℕ) → leader a �
     leap_cost : cost (leave_as 0 [] (fall_to leader) class.JumpReg i a s.pc) ≡ 8 + (cost (guard i.rs1) + (3 + cost (links i s.pc))) + 11
     leap_cost =
         let some : List Item = look_up TEMPORARY ++ look_again 0 in
-        let e = cost_append (guard i.rs1) (Plain (ins Addi TEMPORARY i.rs1 0 i.imm) ∷ Plain (ins Andi TEMPORARY TEMPORARY 0 (neg_ℤ (pos 2))) ∷ (called ++ (links i s.pc ++ some))) in
+        let e = cost_append (guard i.rs1) (take_target i i.rs1 ++ (called ++ (links i s.pc ++ some))) in
         let f = cost_append (links i s.pc) some in
         omega (arith, e, f)
 

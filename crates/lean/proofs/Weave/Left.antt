@@ -60,7 +60,7 @@ module _ (w : World) (l : Lean) (leader : ℕ → Bool) (x : LeanIn w l leader) 
     stop_row class.JumpReg u s i c at so h g calm to sign =
         let lp = leap_step w s i so h c calm in
         let there : w.reached (aim s i) ≡ true = ap w.reached (sym lp.pc) ∙ to i so.over.going (known_at w.source s i so.over h) c in
-        inr (leap_leave w leader entries near_halves u s i a (record { at = at; sourced = so; first = g.1; link = g.0; there = g.2 (aim s i) there lp.grain; table = λ l. g.3 (aim s i) there l; low = low; even = x.grain a leads; sign = sign }) h c calm, refl)
+        inr (leap_leave w leader entries near_halves u s i a (record { at = at; sourced = so; first = g.1; link = g.0; there = g.2 (aim s i) there lp.grain; table = λ l. g.3 (aim s i) there l; low = low; sign = sign }) h c calm, refl)
     stop_row c u s i e at so h g calm to sign = absurd g
 
     -- of any end

@@ -12,8 +12,9 @@ use Rattle.machine.specs.Values.{wrapped}
 use Rattle.machine.specs.Offsets.{distance_between, upper_part, lower_part}
 use Rattle.qed_model.specs.Weave.Placed.{sum_of_sizes}
 use Rattle.qed_model.specs.Weave.Sequences.{Form, End, Falls, Stops, fired_check, guard, check_sign, compare, visit, sweep, before_end, links, zero_from, LAST_ORIGINAL, ORIGINALS, DISTANCE, CURSOR, SIGNATURE, TEMPORARY, SPARE, pair}
-use Rattle.qed_model.specs.Weave.Lean.{is_short, turn_by, turn, goes, check_distance, look_up, look_again, first_word, called, begun, done, check, guard_address, guard_value, mirrored_store, opposite, check_way, taken, leave, leave_as, begin, named, tick, enter}
+use Rattle.qed_model.specs.Weave.Lean.{is_short, turn_by, turn, goes, check_distance, look_up, look_again, first_word, called, begun, done, check, guard_address, guard_value, mirrored_store, opposite, check_way, taken, take_target, leave, leave_as, begin, named, tick, enter}
 use Rattle.qed_model.specs.Weave.LeanCode.{store_part}
+use Rattle.rv_isa.proofs.OperationLaws.{pair-lt}
 use Rattle.qed_model.proofs.Lemmas.{is_within, near_constant, has_word, is_some-some_if, lui_word, addi_word, pair_reg, add_word, mirror_store_word, branch_word, branch_imm, jump_imm, leap_imm}
 use Rattle.weave_core.proofs.Lemmas.{down, up, both_all, if_all, near, IsNear, KnownEnd, IsKnownEnd, InImage}
 use Rattle.weave_core.proofs.TestWords.{Known}
@@ -280,13 +281,16 @@ module _ (at base d : ℕ) (at_is : at ≡ base + 3 * d) (top : base + 3 * d + 1
         (both_all near_code (taken i a t) second (both_all near_code (check_way i.kind i) (goes a t) (way_near i.kind i c k.low.1 k.low.2) (goes_near a t low high far))
         (both_all near_code (check_way o i) ways (way_near o i other k.low.1 k.low.2) (both_all near_code (turn a n) (fall n) (turn_near a n low high next) (fall_near n))))
 
-    even_words : list_all near_code (Plain (ins Andi TEMPORARY TEMPORARY 0 (neg_ℤ (pos 2))) ∷ []) ≡ true
+    abbrev even : List Item
+    even = Plain (ins Andi TEMPORARY TEMPORARY 0 (neg_ℤ (pos 2))) ∷ []
+
+    even_words : list_all near_code even ≡ true
     unfolding encode_of word_of
     even_words = refl
 
-    even_word : has_word (ins Andi SIGNATURE SIGNATURE 0 (neg_ℤ (pos 2))) ≡ true
+    sum_word : has_word (ins Add SIGNATURE SIGNATURE TEMPORARY (pos 0)) ≡ true
     unfolding encode_of word_of
-    even_word = refl
+    sum_word = refl
 
     sub_word : has_word (ins Sub SIGNATURE SIGNATURE TEMPORARY (pos 0)) ≡ true
     unfolding encode_of word_of
@@ -298,20 +302,20 @@ module _ (at base d : ℕ) (at_is : at ≡ base + 3 * d) (top : base + 3 * d + 1
         let r1 = k.low.1 in
         let looks : List Item = look_up TEMPORARY ++ look_again d in
         let last : List Item = called ++ (links i x ++ looks) in
-        let goal : List Item = Plain (ins Addi TEMPORARY i.rs1 0 i.imm) ∷ Plain (ins Andi TEMPORARY TEMPORARY 0 (neg_ℤ (pos 2))) ∷ last in
+        let goal : List Item = take_target i i.rs1 ++ last in
         let guarded : List Item = guard i.rs1 ++ goal in
         let tested : List Item = check_distance d ++ guarded in
         let away : List Item = Constant TEMPORARY a ∷ Plain (ins Sub SIGNATURE SIGNATURE TEMPORARY (pos 0)) ∷ tested in
-        let even : List Item = Plain (ins Andi SIGNATURE SIGNATURE 0 (neg_ℤ (pos 2))) ∷ away in
-        plain (ins Add SIGNATURE SIGNATURE (pair i.rs1) (pos 0)) (Plain (ins Addi SIGNATURE SIGNATURE 0 i.imm) ∷ even) (add_word 16 16 (pair i.rs1) refl refl (pair_reg i.rs1 k.low.1))
-        (plain (ins Addi SIGNATURE SIGNATURE 0 i.imm) even (addi_word 16 16 i.imm (omega arith) (omega arith) z)
-        (plain (ins Andi SIGNATURE SIGNATURE 0 (neg_ℤ (pos 2))) away even_word
+        let signed : List Item = Plain (ins Add SIGNATURE SIGNATURE TEMPORARY (pos 0)) ∷ away in
+        plain (ins Addi TEMPORARY (pair i.rs1) 0 i.imm) (even ++ signed) (addi_word 30 (pair i.rs1) i.imm (omega arith) (pair-lt i.rs1 k.low.1) z)
+        (both_all near_code even signed even_words
+        (plain (ins Add SIGNATURE SIGNATURE TEMPORARY (pos 0)) away sum_word
         (sets 30 a (Plain (ins Sub SIGNATURE SIGNATURE TEMPORARY (pos 0)) ∷ tested) (omega arith) (place a low high)
         (plain (ins Sub SIGNATURE SIGNATURE TEMPORARY (pos 0)) tested sub_word
         (both_all near_code (check_distance d) guarded (distance_near grain)
         (both_all near_code (guard i.rs1) goal (words.guard_near at base d at_is top small i.rs1 k.low.1)
-        (plain (ins Addi TEMPORARY i.rs1 0 i.imm) (Plain (ins Andi TEMPORARY TEMPORARY 0 (neg_ℤ (pos 2))) ∷ last) (addi_word 30 i.rs1 i.imm (omega arith) (omega (arith, r1)) z)
-        (both_all near_code (Plain (ins Andi TEMPORARY TEMPORARY 0 (neg_ℤ (pos 2))) ∷ []) last even_words
+        (plain (ins Addi TEMPORARY i.rs1 0 i.imm) (even ++ last) (addi_word 30 i.rs1 i.imm (omega arith) (omega (arith, r1)) z)
+        (both_all near_code even last even_words
         (both_all near_code called (links i x ++ looks) called_near
         (both_all near_code (links i x) looks (words.links_near at base d at_is top small i x k) (both_all near_code (look_up TEMPORARY) (look_again d) look_target (again_near grain))))))))))))
 

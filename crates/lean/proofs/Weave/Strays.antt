@@ -10,7 +10,7 @@ use Rattle.qed_model.specs.Promise.Kept.{is_trapped, after_output}
 use Rattle.qed_model.specs.Promise.Landed.{placed_at}
 use Rattle.qed_model.specs.Weave.Blocks.{begins_at}
 use Rattle.qed_model.specs.Weave.Code.{pieces_of}
-use Rattle.qed_model.specs.Weave.Lean.{called, check_distance, check_way, look_up, look_again, turn, goes, taken, opposite, leave, leave_as, cost}
+use Rattle.qed_model.specs.Weave.Lean.{take_target, called, check_distance, check_way, look_up, look_again, turn, goes, taken, opposite, leave, leave_as, cost}
 use Rattle.qed_model.specs.Weave.LeanCode.{Lean, worded, fall_to}
 use Rattle.machine.specs.Offsets.{distance_between}
 use Rattle.qed_model.specs.Weave.Placed.{sum_of_sizes}
@@ -25,20 +25,19 @@ use Rattle.weave_core.specs.Weave.{Weave}
 use Rattle.weave_core.specs.WeaveLaws.{PiecesAt}
 use Rattle.weave_core.proofs.Lemmas.{go_walk, go_most, jumped_to, branch_passed, step-break, pc_four, flagged_moved, sized_step, sets_compute, writes, writes_out, writes_long, standing_at, standing_step, standing_run}
 use Rattle.lean.specs.Woven.{LeanPlan, LeanStrayed, weave_of}
-use Rattle.lean.specs.Strayed.{IsInside, IsOther, steps_in, Stopped, Strayed}
+use Rattle.lean.specs.Strayed.{IsInside, steps_in, Stopped, Strayed}
 use Rattle.lean.proofs.Weave.Chain.{items, effects, read_back, chain}
 use Rattle.lean.proofs.Weave.Costs.{guard_most, links_most, turn_most, way_most}
 use Rattle.lean.proofs.Weave.Drift.{Drifts, drifts_append, size_cost, drifts_guards, drifts_links, drifts_piece, drifts_distance, drifts_way, Comes, comes_over, comes_one, comes_more, comes_behind, comes_on, Astray, Before, over_of, drift, drift_from}
 use Rattle.lean.proofs.Weave.Blocks.{begins}
 use Rattle.lean.proofs.Weave.Landed.{in_it, behind, tests}
-use Rattle.lean.proofs.Weave.Leap.{sum, signed, turn_ops, turn_gives, aim_ops, aim_gives}
+use Rattle.lean.proofs.Weave.Leap.{goal, signed, turn_ops, turn_gives, aim_ops, aim_gives}
 use Rattle.lean.proofs.Weave.Leave.{far_enough, beyond_taken, guard_cost}
 use Rattle.lean.proofs.Weave.Plan.{BlockAt, pieces_same}
 use Rattle.lean.proofs.Weave.Promise.{block_at}
 use Rattle.lean.proofs.Weave.Sign.{fires, distance_set}
 use Rattle.lean.proofs.Weave.Turn.{lui_value, turn_any, turned}
 use Rattle.lean.proofs.Weave.Ways.{opposite_is, reads_behind}
-use Rattle.tests.specs.Admission.Leaders.{is_indirect}
 
 -- ---- registers have 64 bits
 small_first : (xs : List ℕ) → ((r : ℕ) → slice_index xs r < 2 ^ 64) → (r : ℕ) → slice_index (slice_set xs 0 0) r < 2 ^ 64
@@ -70,13 +69,9 @@ not_thirty (suc r) h e = absurd (omega (arith, h, e))
 turned_same : (a t x z : ℕ) → a < 2 ^ 64 → x < 2 ^ 64 → (a + z) % 2 ^ 64 ≡ t → (x + z) % 2 ^ 64 ≡ t → x ≡ a
 turned_same a t x z ha hx e f = omega (arith, ha, hx, e, f)
 
--- a sum with it, without its lowest bit
-sums : (x v y : ℕ) → ((x + v) % 2 ^ 64 + y) % 2 ^ 64 ≡ (x + (v + y) % 2 ^ 64) % 2 ^ 64
-sums x v y = omega arith
-
-even_apart :
-    (a x s t : ℕ) → a < 2 ^ 64 → x < 2 ^ 64 → s < 2 ^ 64 → t ≡ (x + s) % 2 ^ 64 → (t / 2 * 2 + (2 ^ 64 - a)) % 2 ^ 64 ≡ s / 2 * 2 → (x ≡ a → ⊥) → ((x + 1) % 2 ^ 64 ≡ a → ⊥) → (x ≡ a + 1 → ⊥) → a % 2 ≡ 0 → ⊥
-even_apart a x s t ha hx hs e f apart below above even = absurd (omega (arith, ha, hx, hs, e, f, apart, below, above, even))
+-- a target added and the address of the block taken away leave the target only if it was that address
+shifted_same : (a x n : ℕ) → a < 2 ^ 64 → x < 2 ^ 64 → ((x + n % 2 ^ 64 / 2 * 2) % 2 ^ 64 + (2 ^ 64 - a)) % 2 ^ 64 ≡ n % 2 ^ 64 / 2 * 2 → x ≡ a
+shifted_same a x n ha hx e = omega (arith, ha, hx, e)
 
 module _ (f g : Program) (w : World) (l : Lean) (blocks : List Block) (p : LeanPlan f g w l blocks) (land : l.land ≡ true) where
   abbrev leader : ℕ → Bool
@@ -251,16 +246,16 @@ module _ (f g : Program) (w : World) (l : Lean) (blocks : List Block) (p : LeanP
         over_more u 9 18 (omega arith) (way_law u j i (target i at) ((at + 4) % 2 ^ 64) (opposite_is i.kind c).0 c refl k r)
 
     -- ---- a JALR
-    module _ (below : (x + 1) % 2 ^ 64 ≡ a → ⊥) (above : x ≡ a + 1 → ⊥) (even : a % 2 ≡ 0) (i : Ins) (at : ℕ) (h1 : i.rs1 ≤ LAST_ORIGINAL) where
+    module _ (i : Ins) (at : ℕ) (h1 : i.rs1 ≤ LAST_ORIGINAL) where
       abbrev tail3 : List Item
       tail3 = called ++ (links i at ++ (look_up TEMPORARY ++ look_again l.distance))
 
       abbrev tail2 : List Item
-      tail2 = Plain (ins Addi TEMPORARY i.rs1 0 i.imm) ∷ Plain (ins Andi TEMPORARY TEMPORARY 0 (neg_ℤ (pos 2))) ∷ tail3
+      tail2 = take_target i i.rs1 ++ tail3
 
       -- the signature turned by the pair is not the target by the same number
-      differ : (value : ℕ) → signed i a x value ≡ sum i a x value / 2 * 2 → ⊥
-      differ value e = even_apart a x (sum i a x value) (((x + value) % 2 ^ 64 + imm i) % 2 ^ 64) low small (omega arith) (sums x value (imm i)) e ne below above even
+      differ : (value : ℕ) → signed i a x value ≡ goal i a x value → ⊥
+      differ value e = ne (shifted_same a x (value + imm i) low small e)
 
       -- behind the comparison of x14, where the original and the pair have a number
       aims_law :
@@ -270,8 +265,8 @@ module _ (f g : Program) (w : World) (l : Lean) (blocks : List Block) (p : LeanP
           let few = guard_most i.rs1 in
           let pass = guard_cost w u i.rs1 tail2 o r same in
           let y = moved u.regs pass.pc u in
-          let aims = aim_ops i a x value in
-          let s = chain w y tail3 (over_moved w.code u u.regs pass.pc o) aims long (aim_gives i a x value y long is) pass.reads in
+          let aims = aim_ops i a x value i.rs1 [] in
+          let s = chain w y tail3 (over_moved w.code u u.regs pass.pc o) aims long (aim_gives i a x value y i.rs1 [] long is tt) pass.reads in
           let ws = effects aims in
           let z = moved (writes ws u.regs) s.pc u in
           let not_same : reg z SIGNATURE ≡ reg z TEMPORARY → ⊥ = λ e. differ value (sym sign ∙ sym (read_back ws u.regs 16 long refl) ∙ e ∙ read_back ws u.regs 30 long refl) in
@@ -327,23 +322,23 @@ module _ (f g : Program) (w : World) (l : Lean) (blocks : List Block) (p : LeanP
           let d = p.sound.apart in
           over_more u 12 18 (omega arith)
           (over_behind u y 6 6 s.walk.ends (distance_law y l.distance value (omega (arith, near, d)) (over_moved w.code u (writes ws u.regs) s.pc o) (writes_long ws u.regs ∙ long) (read_back ws u.regs 0 long refl ∙ b.standing.flagged.zero_reg) (read_back ws u.regs 16 long refl)
-          (writes_out ws u.regs (pair i.rs1) (not_sixteen i.rs1 h1, (not_sixteen i.rs1 h1, (not_sixteen i.rs1 h1, (not_thirty i.rs1 h1, (not_sixteen i.rs1 h1, tt))))))
+          (writes_out ws u.regs (pair i.rs1) (not_thirty i.rs1 h1, (not_thirty i.rs1 h1, (not_sixteen i.rs1 h1, (not_thirty i.rs1 h1, (not_sixteen i.rs1 h1, tt))))))
           s.reads))
 
     -- ---- of any end
     stop_law :
-        (c : Class) (u : State) (i : Ins) (at : ℕ) → class_of i.kind ≡ c → (is_indirect c ≡ true → (x + 1) % 2 ^ 64 ≡ a → ⊥) → (is_indirect c ≡ true → x ≡ a + 1 → ⊥) → a % 2 ≡ 0 → Leaves c w leader i at → Astray w x u
+        (c : Class) (u : State) (i : Ins) (at : ℕ) → class_of i.kind ≡ c → Leaves c w leader i at → Astray w x u
         → Reads false w.code w.entry u.pc (leave_as l.distance (before_end w.form) (fall_to leader) c i a at) → Over u 18
-    stop_law class.End u i at c below above even h k r = end_law l.distance u (before_end w.form ++ (Plain i ∷ [])) k r
-    stop_law class.Illegal u i at c below above even h k r = over_more u 0 18 (omega arith) (at_illegal x u i k r.0 c)
-    stop_law class.Jump u i at c below above even h k r = jump_law u i at h.0 k r
-    stop_law class.Branch u i at c below above even h k r = branch_law u i at c k r
-    stop_law class.JumpReg u i at c below above even h k r = leap_law (below refl) (above refl) even i at h.1 u k r
-    stop_law c u i at e below above even h k r = absurd h
+    stop_law class.End u i at c h k r = end_law l.distance u (before_end w.form ++ (Plain i ∷ [])) k r
+    stop_law class.Illegal u i at c h k r = over_more u 0 18 (omega arith) (at_illegal x u i k r.0 c)
+    stop_law class.Jump u i at c h k r = jump_law u i at h.0 k r
+    stop_law class.Branch u i at c h k r = branch_law u i at c k r
+    stop_law class.JumpReg u i at c h k r = leap_law i at h.1 u k r
+    stop_law c u i at e h k r = absurd h
 
-  leave_law : (e : End) (a x : ℕ) (u : State) (at : ℕ) → a < 2 ^ 64 → a % 2 ≡ 0 → x < 2 ^ 64 → IsOther e a x → EndStands w leader e at → Astray w x u → Reads false w.code w.entry u.pc (leave l.distance (before_end w.form) (fall_to leader) e a at) → Over u 18
-  leave_law Falls a x u at low even small ne h k r = over_more u 7 18 (omega arith) (falls_law a x low small ne.apart at u k r)
-  leave_law (Stops i) a x u at low even small ne h k r = stop_law a x low small ne.apart (class_of i.kind) u i at refl ne.below ne.above even h.1 k r
+  leave_law : (e : End) (a x : ℕ) (u : State) (at : ℕ) → a < 2 ^ 64 → x < 2 ^ 64 → (x ≡ a → ⊥) → EndStands w leader e at → Astray w x u → Reads false w.code w.entry u.pc (leave l.distance (before_end w.form) (fall_to leader) e a at) → Over u 18
+  leave_law Falls a x u at low small ne h k r = over_more u 7 18 (omega arith) (falls_law a x low small ne at u k r)
+  leave_law (Stops i) a x u at low small ne h k r = stop_law a x low small ne (class_of i.kind) u i at refl h.1 k r
 
   -- ---- the pieces
   drifts_pieces : (ps : List (List Ins)) (e : End) (at : ℕ) → PiecesAt w v leader ps e at → Drifts (pieces_of v.code ps at)
@@ -388,12 +383,11 @@ module _ (f g : Program) (w : World) (l : Lean) (blocks : List Block) (p : LeanP
         let astray : Astray w (reg (after_output g regs t) SIGNATURE) (placed_at q (after_output g regs t)) = record { going = going; standing = record { code = st.code; flagged = flagged_moved w.output (after_output g regs t) q st.flagged }; sign = refl } in
         drift_from w body (drifts_pieces b.body b.end b.start here.good.pieces) inside.words (w.entry b.start + enters) x y leaves (omega (arith, inside.within, same_size)) astray inside.there reads
 
-    stopped : IsOther b.end b.start x → Stopped (steps_in (worded w.form w.base w.entry l leader) b) y
+    stopped : (x ≡ b.start → ⊥) → Stopped (steps_in (worded w.form w.base w.entry l leader) b) y
     stopped other =
         let ends = end_stands b.body b.end b.start here.good.pieces in
-        let even = p.sound.grain b.start (begins blocks b m) in
         let small = small_at f g w p.world regs are t 16 in
-        let c = over_on (Before w x leaves) y (cost body) 18 to_leave (λ z k. leave_law b.end b.start x z at here.good.low even small other ends k.0 k.1) in
+        let c = over_on (Before w x leaves) y (cost body) 18 to_leave (λ z k. leave_law b.end b.start x z at here.good.low small other ends k.0 k.1) in
         let size = size_cost body in
         record { steps = c.steps + 1; within = omega (arith, c.within, size, same_size); over = ⊎_elim (λ o. o) (λ z. absurd z) c.is }
 

@@ -10,8 +10,7 @@ use Rattle.machine.specs.Members.{Among}
 use Rattle.qed_model.specs.Weave.Sequences.{End, Falls, Stops, Block}
 use Rattle.qed_model.specs.Weave.LeanCode.{Lean, end_at, block_steps, leads_as, leads_on, leads_in, TickRow, has_tick, most_at, owed_at, owed_as, owed_behind, Counting, needs_tick, tick_rows}
 use Rattle.weave_core.proofs.Lemmas.{Ascend}
-use Rattle.lean.specs.Strayed.{by_register}
-use Rattle.lean.specs.Woven.{owed, IsCounted, AreCounted}
+use Rattle.lean.specs.Woven.{owed, by_register, IsCounted, AreCounted}
 
 -- ---- what is owed behind an end
 module _ (most : ℕ) (owes : ℕ → ℕ) where

@@ -10,7 +10,7 @@ use Rattle.qed_model.specs.declared.item.Item.{Item}
 use Rattle.qed_model.specs.declared.item.Item.TheVariants.{Plain, Constant, Go}
 use Rattle.machine.specs.Offsets.{distance_between, upper_part, lower_part}
 use Rattle.qed_model.specs.Weave.Sequences.{Form, End, Falls, Stops, check_sign, compare, visit, guard, links, fired_check, zero_from, sweep, before_end, ORIGINALS, LAST_ORIGINAL, PAIR_DISTANCE, DISTANCE, CURSOR, SIGNATURE, TEMPORARY, SPARE, Class, class_of, pair}
-use Rattle.qed_model.specs.Weave.Lean.{named, tick, enter, is_short, turn_by, turn, check_distance, look_up, look_again, first_word, called, begun, done, check, goes, turn_leap, leave, leave_as, begin}
+use Rattle.qed_model.specs.Weave.Lean.{named, tick, enter, is_short, turn_by, turn, check_distance, look_up, look_again, first_word, called, begun, done, check, goes, take_target, turn_leap, leave, leave_as, begin}
 use Rattle.weave_core.specs.KindItems.{LockItems, LandItems, Straight, GoodEnd, end_branches, end_jumps, end_jumps_reg, end_ends, end_illegal}
 use Rattle.weave_core.specs.Lock.{Scratch}
 use Rattle.weave_core.specs.Kinds.{is_ld, is_scratch}
@@ -211,8 +211,8 @@ module _ (far : Bool) where
 
   -- ---- the leave of a JALR
   module _ (d : ℕ) (i : Ins) (a at : ℕ) (h1 : i.rs1 ≤ LAST_ORIGINAL) where
-    abbrev use_it : Ins
-    use_it = ins Addi TEMPORARY i.rs1 0 i.imm
+    abbrev use_it : ℕ → Ins
+    use_it r = ins Addi TEMPORARY r 0 i.imm
 
     abbrev even : List Item
     even = Plain (ins Andi TEMPORARY TEMPORARY 0 (neg_ℤ (pos 2))) ∷ []
@@ -225,26 +225,27 @@ module _ (far : Bool) where
     tested = even ++ (called ++ linked)
 
     abbrev guarded : List Item
-    guarded = guard i.rs1 ++ (Plain use_it ∷ tested)
+    guarded = guard i.rs1 ++ (Plain (use_it i.rs1) ∷ tested)
 
     linked_items : i.rd ≤ LAST_ORIGINAL → LockItems far linked
     linked_items hd = items_then far (links i at) (look_up TEMPORARY ++ look_again d) (links_items far i at hd) (looks_items TEMPORARY d refl)
 
     guarded_items : i.rd ≤ LAST_ORIGINAL → LockItems far guarded
     guarded_items hd =
-        let used : LockItems far (guard i.rs1 ++ (Plain (ins Addi TEMPORARY i.rs1 0 i.imm) ∷ [])) = one_guard far use_it i.rs1 (if_guarded use_it i.rs1 h1 (takes_use i.rs1 i.imm h1)) in
-        subst (LockItems far) (append_assoc (guard i.rs1) (Plain use_it ∷ []) tested) (items_then far (guard i.rs1 ++ (Plain use_it ∷ [])) tested used (computing even (called ++ linked) refl (called_items linked (linked_items hd))))
+        let own = use_it i.rs1 in
+        let used : LockItems far (guard i.rs1 ++ (Plain own ∷ [])) = one_guard far own i.rs1 (if_guarded own i.rs1 h1 (takes_use i.rs1 i.imm h1)) in
+        subst (LockItems far) (append_assoc (guard i.rs1) (Plain own ∷ []) tested) (items_then far (guard i.rs1 ++ (Plain own ∷ [])) tested used (computing even (called ++ linked) refl (called_items linked (linked_items hd))))
 
     leap_items : (fall : ℕ → List Item) → i.rd ≤ LAST_ORIGINAL → LockItems far (leave_as d [] fall class.JumpReg i a at)
     leap_items fall hd =
-        let add = ins Add SIGNATURE SIGNATURE (pair i.rs1) (pos 0) in
-        let signs : List Item = Plain (ins Addi SIGNATURE SIGNATURE 0 i.imm) ∷ Plain (ins Andi SIGNATURE SIGNATURE 0 (neg_ℤ (pos 2))) ∷ Constant TEMPORARY a ∷ Plain (ins Sub SIGNATURE SIGNATURE TEMPORARY (pos 0)) ∷ [] in
-        items_one far add (signs ++ (check_distance d ++ guarded)) (scratch_compute add refl (inr (omega arith)) (pair_scratch i.rs1)) (computing signs (check_distance d ++ guarded) refl (distance_items d guarded (guarded_items hd)))
+        let other = use_it (pair i.rs1) in
+        let signs : List Item = even ++ (Plain (ins Add SIGNATURE SIGNATURE TEMPORARY (pos 0)) ∷ Constant TEMPORARY a ∷ Plain (ins Sub SIGNATURE SIGNATURE TEMPORARY (pos 0)) ∷ []) in
+        items_one far other (signs ++ (check_distance d ++ guarded)) (scratch_compute other refl (pair_scratch i.rs1) (inl refl)) (computing signs (check_distance d ++ guarded) refl (distance_items d guarded (guarded_items hd)))
 
     leap_lands : (fall : ℕ → List Item) → i.rd ≤ LAST_ORIGINAL → LandItems far (leave_as d [] fall class.JumpReg i a at)
     leap_lands fall hd =
-        let turns : List Item = Plain (ins Add SIGNATURE SIGNATURE (pair i.rs1) (pos 0)) ∷ Plain (ins Addi SIGNATURE SIGNATURE 0 i.imm) ∷ Plain (ins Andi SIGNATURE SIGNATURE 0 (neg_ℤ (pos 2))) ∷ [] in
-        let takes : List Item = Plain (ins Addi TEMPORARY i.rs1 0 i.imm) ∷ Plain (ins Andi TEMPORARY TEMPORARY 0 (neg_ℤ (pos 2))) ∷ [] in
+        let turns : List Item = take_target i (pair i.rs1) ++ (Plain (ins Add SIGNATURE SIGNATURE TEMPORARY (pos 0)) ∷ []) in
+        let takes : List Item = take_target i i.rs1 in
         let away : List Item = Plain (ins Sub SIGNATURE SIGNATURE TEMPORARY (pos 0)) ∷ [] in
         let turned : Straight far turns = λ c e a. (tt, (tt, (tt, tt))) in
         let last : Straight far away = λ c e a. (tt, tt) in

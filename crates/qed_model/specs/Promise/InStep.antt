@@ -23,8 +23,8 @@ pub record SameBeside (spans : List (ℕ × ℕ)) (u v : State) : Type 0 where
   pub regs : (r : ℕ) → 14 ≤ r → reg u r ≡ reg v r
   pub bytes : (q : ℕ) → is_in_any spans q ≡ false → byte_at u.memory q ≡ byte_at v.memory q
 
--- at its step m a run with changes, the last of them after t steps, has fired, or has ended, or nothing is left of the changes; if it has ended, the
--- run without them ends at the same step, and nothing is wrong beside x1 to x13 and the data of the original half
+-- at its step m a run with changes, the last of them after t steps, has fired, or has ended, or nothing is left of the changes. If it has ended, the
+-- run without them ends at that step too, and nothing is wrong beside x1 to x13 and the data of the original half
 pub data IsSettled (spans : List (ℕ × ℕ)) (t m : ℕ) (changed unchanged : ℕ → State) : Type 0 where
   fires : (changed m).outcome ≡ Fired → IsSettled spans t m changed unchanged
   ends : (changed m).outcome ≡ Ended → ((k : ℕ) → k ≤ m → (changed k).outcome ≡ (unchanged k).outcome) → SameBeside spans (changed m) (unchanged m) → IsSettled spans t m changed unchanged

@@ -119,10 +119,13 @@ check_way k i = Plain (ins k 0 (pair i.rs1) (pair i.rs2) (pos 8)) ∷ fired_chec
 abbrev pub taken : Ins → ℕ → ℕ → List Item
 taken i a t = check_way i.kind i ++ goes a t
 
--- a JALR adds its target by the pair to the signature
+-- takes the target of a JALR by a register, its own or the pair
+abbrev pub take_target : Ins → ℕ → List Item
+take_target i r = Plain (ins Addi TEMPORARY r 0 i.imm) ∷ Plain (ins Andi TEMPORARY TEMPORARY 0 (neg_ℤ (pos 2))) ∷ []
+
+-- a JALR adds its target by the pair to the signature, and takes the address of its block away
 abbrev pub turn_leap : Ins → ℕ → List Item
-turn_leap i a =
-    Plain (ins Add SIGNATURE SIGNATURE (pair i.rs1) (pos 0)) ∷ Plain (ins Addi SIGNATURE SIGNATURE 0 i.imm) ∷ Plain (ins Andi SIGNATURE SIGNATURE 0 (neg_ℤ (pos 2))) ∷ Constant TEMPORARY a ∷ Plain (ins Sub SIGNATURE SIGNATURE TEMPORARY (pos 0)) ∷ []
+turn_leap i a = take_target i (pair i.rs1) ++ (Plain (ins Add SIGNATURE SIGNATURE TEMPORARY (pos 0)) ∷ Constant TEMPORARY a ∷ Plain (ins Sub SIGNATURE SIGNATURE TEMPORARY (pos 0)) ∷ [])
 
 -- the leave of an instruction at `at`, in the block that begins at a, where the halves are d apart; `fall` gives what leads to the entry behind the block, and `before` is what
 -- stands before an ECALL, which compares all registers, the distance and the signature first. A branch goes by the originals, and each way fires where the pairs would go the
@@ -133,7 +136,7 @@ leave_as d before fall class.Jump i a at = links i at ++ goes a (target i at)
 leave_as d before fall class.Branch i a at =
     Plain (ins (opposite i.kind) 0 i.rs1 i.rs2 (pos (4 + sum_of_sizes false (taken i a (target i at))))) ∷ (taken i a (target i at) ++ (check_way (opposite i.kind) i ++ (turn a ((at + 4) % 2 ^ 64) ++ fall ((at + 4) % 2 ^ 64))))
 leave_as d before fall class.JumpReg i a at =
-    turn_leap i a ++ (check_distance d ++ (guard i.rs1 ++ (Plain (ins Addi TEMPORARY i.rs1 0 i.imm) ∷ Plain (ins Andi TEMPORARY TEMPORARY 0 (neg_ℤ (pos 2))) ∷ (called ++ (links i at ++ (look_up TEMPORARY ++ look_again d))))))
+    turn_leap i a ++ (check_distance d ++ (guard i.rs1 ++ (take_target i i.rs1 ++ (called ++ (links i at ++ (look_up TEMPORARY ++ look_again d))))))
 leave_as d before fall _ i a at = Plain i ∷ []
 
 -- of a block that begins at a and has its end at `at`
