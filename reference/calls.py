@@ -1,4 +1,4 @@
-"""The calls of the program (docs/FORMATS.md, "Printed lines"; docs/REFUSALS.md, "Exit codes")."""
+"""The calls of the program (docs/FORMATS.md, "Printed lines"; COMMANDS.md, "Exit codes")."""
 
 from __future__ import annotations
 
@@ -174,7 +174,7 @@ def check_memory(files: List[File]) -> None:
 
 
 def status_of(outcomes: List[str]) -> int:
-    """The exit code of the worst of these outcomes (REFUSALS.md, "Exit codes")."""
+    """The exit code of the worst of these outcomes (COMMANDS.md, "Exit codes")."""
     if FIRED in outcomes:
         return FIRED_STATUS
     if any(outcome not in (ENDED, GOING) for outcome in outcomes):
