@@ -67,7 +67,8 @@ impl<A: Pass> Pass for Guarded<A> {
         Ok(())
     }
 
-    ghost quiet = { λ g i at h. quiet_guarded (A.suits g.pass) (used i) (A.items g.pass i at) (A.needs g.pass i at) (A.gives g.pass i at) (A.leaves g.pass i at) (A.cost g.pass i) h.1 (A.quiet g.pass i at h.0) };
+    ghost quiet = { λ g i at h. quiet_guarded (A.suits g.pass) (used i) (A.items g.pass i at)
+        (A.needs g.pass i at) (A.gives g.pass i at) (A.leaves g.pass i at) (A.cost g.pass i) h.1 (A.quiet g.pass i at h.0) };
 
     ghost honest = { λ g i at h. honest_guarded (A.suits g.pass) (used i) (A.items g.pass i at) h.1 (A.honest g.pass i at h.0) };
 

@@ -29,4 +29,5 @@ pub record Inside (far : Bool) (items : List Item) (c : ℕ → Fetched) (entry 
 
 -- among the words of honest items, if the next step leads to an EBREAK, something differs
 abbrev pub ChecksAlone : Type 0
-ChecksAlone = (far : Bool) (items : List Item) → HonestItems far items → (c : ℕ → Fetched) (entry : ℕ → ℕ) (a k : ℕ) (s : State) → Inside far items c entry a k s → (step s).outcome ≡ Going → c (step s).pc ≡ ebreak → Differs c s
+ChecksAlone = (far : Bool) (items : List Item) → HonestItems far items → (c : ℕ → Fetched) (entry : ℕ → ℕ) (a k : ℕ) (s : State)
+    → Inside far items c entry a k s → (step s).outcome ≡ Going → c (step s).pc ≡ ebreak → Differs c s
