@@ -56,7 +56,8 @@ Begun false true leads reached most (w ∷ ws) bs = One (IsShortBlock w) bs
 Begun false false leads reached most (w ∷ ws) bs = bs ≡ []
 
 -- adding the blocks that begin with the first word
-pub record AddsBlock (leader : Bool) (leads : ℕ → Bool) (every : Bool) (reached : ℕ → Bool) (most : ℕ) (words : List CodeWord) (old new : List CodeBlock) : Type 0 where
+pub record AddsBlock (leader : Bool) (leads : ℕ → Bool) (every : Bool) (reached : ℕ → Bool)
+    (most : ℕ) (words : List CodeWord) (old new : List CodeBlock) : Type 0 where
   pub added : List CodeBlock
   pub new_is : new ≡ old ++ added
   pub begun : Begun leader every leads reached most words added

@@ -101,7 +101,8 @@ fn push_block(
 ) -> Result<(), AllocError>
     requires some { 1 ≤ length words.now }
     requires sound { AreSoundOptions cutting.now.options.now }
-    ensures { OnOk result (AddsBlock leads (is_at next) cutting.now.every (has_address cutting.now.reached.now) cutting.now.options.now.inst_max words.now blocks.old.items blocks.new.items) }
+    ensures { OnOk result (AddsBlock leads (is_at next) cutting.now.every
+        (has_address cutting.now.reached.now) cutting.now.options.now.inst_max words.now blocks.old.items blocks.new.items) }
 {
     let alloc = *blocks.allocator();
     if leads {
@@ -142,7 +143,8 @@ pub(crate) fn list(
 ) -> Result<Vec<CodeBlock>, AllocError>
     requires sound { AreSoundOptions cutting.now.options.now }
     requires along { AreAlong words.now leaders.now }
-    ensures { IfOk result (λ blocks. Built (lists leaders.now) cutting.now.every (has_address cutting.now.reached.now) cutting.now.options.now.inst_max words.now blocks.items) }
+    ensures { IfOk result (λ blocks. Built (lists leaders.now) cutting.now.every
+        (has_address cutting.now.reached.now) cutting.now.options.now.inst_max words.now blocks.items) }
 {
     let mut blocks = Vec::new(alloc);
     let mut left = leaders;

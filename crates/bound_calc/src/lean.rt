@@ -29,7 +29,8 @@ fn call(shape: &Shape) -> u128
 
 /// The steps of the longest piece, with a check before it and the leave.
 fn piece(shape: &Shape, check: u64) -> Option<u64>
-    ensures { result ≡ fitting (LEAN_LEAVE_STEPS + call_steps_of shape.now.land + 2 * entry_steps_of shape.now.land + check + cost_of shape.now.diverse * shape.now.inst_max) }
+    ensures { result ≡ fitting (LEAN_LEAVE_STEPS + call_steps_of shape.now.land
+        + 2 * entry_steps_of shape.now.land + check + cost_of shape.now.diverse * shape.now.inst_max) }
 {
     let cost = u128::from(lean_instruction_steps(shape.diverse));
     let body = cost * u128::from(shape.inst_max);

@@ -46,16 +46,25 @@ parts_cost false = (omega arith, λ i. let h = spent_le i in omega (arith, h))
 
 pub piece_laws :
     (suits : Bool → Type 0) → ((far : Bool) → suits far) → (other : Bool) (round : ℕ) (spans : List (ℕ × ℕ)) (items : List Item) (is : List Ins) (at : ℕ)
-    → Quiet suits items (NeedsPiece next_at NeedsMirror (mirror_cost other) (NeedsChecks spans) is at) (GivesPiece next_at (mirror_cost other) (GivesChecks round spans) is at) (LeavesPiece next_at (mirror_cost other) LeavesChecks is at)
+    → Quiet suits items
+    (NeedsPiece next_at NeedsMirror (mirror_cost other) (NeedsChecks spans) is at)
+    (GivesPiece next_at (mirror_cost other) (GivesChecks round spans) is at)
+    (LeavesPiece next_at (mirror_cost other) LeavesChecks is at)
     (piece_cost (mirror_cost other) (ORIGINALS + visit_bound (word_count spans) (length spans) * round) is)
     → PieceLeads (cost_of other) round spans items is at
 piece_laws suits all other round spans items is at q = record {
   leads = λ w v rest f cur e here has fit run so calm st.
       let part = cost_of other in
       let few = parts_cost other in
-      let x = piece_leads next_at (λ a h. omega (arith, h)) w NeedsMirror (λ i at v r. r) (mirror_cost other) (NeedsChecks spans) (GivesChecks round spans) LeavesChecks 0 round (both_checks w round spans f) is at suits (all w.form.far) (part * length is) (ORIGINALS + visit_bound (word_count spans) (length spans) * round) items (cost_parts part (mirror_cost other) few.0 few.1 is) q v rest (subst (λ l. IsCursor l (reg v.now CURSOR)) (sym f) cur) e here has fit run so calm st in
+      let x = piece_leads next_at (λ a h. omega (arith, h)) w NeedsMirror (λ i at v r. r)
+      (mirror_cost other) (NeedsChecks spans) (GivesChecks round spans) LeavesChecks
+      0 round (both_checks w round spans f) is at suits (all w.form.far) (part * length is)
+      (ORIGINALS + visit_bound (word_count spans) (length spans) * round) items
+      (cost_parts part (mirror_cost other) few.0 few.1 is) q v rest
+      (subst (λ l. IsCursor l (reg v.now CURSOR)) (sym f) cur) e here has fit run so calm st in
       let none : part * length is + 0 ≡ part * length is = omega arith in
-      subst (λ k. Leads w v (part * length is + (ORIGINALS + visit_bound (word_count spans) (length spans) * round)) rest (Pieced w k round is v.original v) (λ n z. ⊥)) none x;
+      subst (λ k. Leads w v (part * length is + (ORIGINALS + visit_bound (word_count spans) (length spans) * round)) rest
+      (Pieced w k round is v.original v) (λ n z. ⊥)) none x;
 }
 
 -- ---- in any form of the code

@@ -75,7 +75,8 @@ pub fn roles<W: Weaving>(
     requires half { test.now.distance < 2 ^ 63 }
     requires fit { All FitsBlock blocks.now }
     requires own { All (W.is_for weaver.now) blocks.now }
-    ensures { IfOk result (λ rows. rows.items ≡ role_rows (W.kind weaver.now).far (code_parts (W.parts weaver.now) test.now.distance test.now.entry (map block_of blocks.now))) }
+    ensures { IfOk result (λ rows. rows.items ≡ role_rows (W.kind weaver.now).far
+        (code_parts (W.parts weaver.now) test.now.distance test.now.entry (map block_of blocks.now))) }
 {
     let far = weaver.far();
     let roles = weave(alloc, weaver, test, blocks, Roles::new(alloc, far))?;
@@ -156,8 +157,11 @@ pub fn woven_code(
     blocks: &[CodeBlock],
 ) -> Result<Woven<Weaver>, LinkError>
     requires { (f : ElfFile) × IsCut f options.now test.now blocks.now }
-    ensures code { IfOk result (λ woven. (f : ElfFile) → IsCut f options.now test.now blocks.now → IsWoven (compared f options.now (map block_of blocks.now)) f options.now test.now blocks.now (kind woven.weaver) (parts (form woven.weaver)) (λ b. Unit {0}) woven.linked) }
-    ensures cause { IfErr result (λ e. (f : ElfFile) → IsCut f options.now test.now blocks.now → HasCause (compared f options.now (map block_of blocks.now)) e) }
+    ensures code { IfOk result (λ woven. (f : ElfFile) → IsCut f options.now test.now blocks.now
+        → IsWoven (compared f options.now (map block_of blocks.now)) f options.now test.now blocks.now
+        (kind woven.weaver) (parts (form woven.weaver)) (λ b. Unit {0}) woven.linked) }
+    ensures cause { IfErr result (λ e. (f : ElfFile)
+        → IsCut f options.now test.now blocks.now → HasCause (compared f options.now (map block_of blocks.now)) e) }
 {
     let far = is_far(test, options, blocks);
     code_in(alloc, test, options, blocks, far)

@@ -47,7 +47,9 @@ abbrev variable : Segment
 variable = record { kind = 1; flags = 6; address = 0x21000; memory = 8; bytes = 0 ∷ 0 ∷ 0 ∷ 0 ∷ 0 ∷ 0 ∷ 0 ∷ 0 ∷ [] }
 
 unfoldable pub far_bytes : List ℕ
-far_bytes = header ++ (fields_bytes (program_fields text 0xe8 ++ (program_fields constant 0x130 ++ program_fields variable 0x138)) ++ (code_bytes ++ (constant.bytes ++ variable.bytes)))
+far_bytes = header
+    ++ (fields_bytes (program_fields text 0xe8 ++ (program_fields constant 0x130 ++ program_fields variable 0x138))
+    ++ (code_bytes ++ (constant.bytes ++ variable.bytes)))
 
 -- the file with these bytes
 abbrev pub far_test : ElfFile

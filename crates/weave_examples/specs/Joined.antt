@@ -52,19 +52,22 @@ JoinedKept cut =
 abbrev pub JoinedLanded : (List Ins → List (List Ins)) → Type 0
 JoinedLanded cut =
     (f g : Program) (w : World) (most : ℕ) (blocks : List Block) (entries : List EntryRow) → PlanOf f g w (joined cut w.form most) blocks → Mirrors w
-    → ((a e : ℕ) → IsEntry entries a e → (begins_at blocks a ≡ true) × (e ≡ w.entry a)) → LandedInStep 4 f g w.reached entries (start_steps (joined cut w.form most)) (stage_steps (joined cut w.form most))
+    → ((a e : ℕ) → IsEntry entries a e → (begins_at blocks a ≡ true) × (e ≡ w.entry a))
+    → LandedInStep 4 f g w.reached entries (start_steps (joined cut w.form most)) (stage_steps (joined cut w.form most))
 
 abbrev pub JoinedCaught : (List Ins → List (List Ins)) → Type 0
 JoinedCaught cut =
     (f g : Program) (w : World) (most : ℕ) (blocks : List Block) (bounds : Bounds) → PlanOf f g w (joined cut w.form most) blocks → Mirrors w
     → MirrorsFit w.form.far w.form.mirror → OnlyCode f g w (joined cut w.form most).code blocks → 1 ≤ w.form.round
-    → BoundsOf w (joined cut w.form most) bounds → CaughtInStep f g w.reached w.form.spans bounds (start_steps (joined cut w.form most)) (stage_steps (joined cut w.form most))
+    → BoundsOf w (joined cut w.form most) bounds
+    → CaughtInStep f g w.reached w.form.spans bounds (start_steps (joined cut w.form most)) (stage_steps (joined cut w.form most))
 
 abbrev pub JoinedClean : (List Ins → List (List Ins)) → Type 0
 JoinedClean cut =
     (f g : Program) (w : World) (most : ℕ) (blocks : List Block) → PlanOf f g w (joined cut w.form most) blocks → Mirrors w
     → MirrorsFit w.form.far w.form.mirror → OnlyCode f g w (joined cut w.form most).code blocks → 1 ≤ w.form.round → w.form.sweep ≡ true
-    → CleanInStep f g w.reached w.form.spans ((joined cut w.form most).sweep_steps + 14) (start_steps (joined cut w.form most)) (stage_steps (joined cut w.form most))
+    → CleanInStep f g w.reached w.form.spans ((joined cut w.form most).sweep_steps + 14)
+    (start_steps (joined cut w.form most)) (stage_steps (joined cut w.form most))
 
 -- the cut above keeps the instructions and gives runs: so each list of at most `most` instructions is one piece
 abbrev pub CutsRuns : Type 0

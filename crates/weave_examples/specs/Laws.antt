@@ -14,4 +14,7 @@ pub honest_one : Honest any (guard 10)
 honest_one = honest_guards any (10 ∷ []) (omega arith, tt)
 
 pub lockstep_one : Lockstep any [] (guard 10)
-lockstep_one = record { locks = λ far s e a. compare_lockstep (10 ∷ []) (omega arith, omega arith, tt); lands = λ far s. straight_lands far (guard 10) (straight_guard far 10 (omega arith)) }
+lockstep_one = record {
+  locks = λ far s e a. compare_lockstep (10 ∷ []) (omega arith, omega arith, tt);
+  lands = λ far s. straight_lands far (guard 10) (straight_guard far 10 (omega arith));
+}

@@ -33,4 +33,5 @@ abbrev pub OneCaught : Type 0
 OneCaught =
     (f g : Program) (w : World) (most : ℕ) (blocks : List Block) (bounds : Bounds) → PlanOf f g w (with_one w.form most) blocks → Mirrors w
     → MirrorsFit w.form.far w.form.mirror → OnlyCode f g w (with_one w.form most).code blocks → 1 ≤ w.form.round
-    → BoundsOf w (with_one w.form most) bounds → CaughtInStep f g w.reached w.form.spans bounds (start_steps (with_one w.form most)) (stage_steps (with_one w.form most))
+    → BoundsOf w (with_one w.form most) bounds
+    → CaughtInStep f g w.reached w.form.spans bounds (start_steps (with_one w.form most)) (stage_steps (with_one w.form most))
