@@ -93,7 +93,8 @@ fn add_sums(
     known: &Known<'_>,
     word: &CodeWord,
 ) -> Result<(), AllocError>
-    ensures { OnOk result (Covers code.now found.old found.new (λ a. sums_lead code.now.test.now known.now.near.now known.now.register known.now.value a word.now)) }
+    ensures { OnOk result (Covers code.now found.old found.new (λ a.
+        sums_lead code.now.test.now known.now.near.now known.now.register known.now.value a word.now)) }
 {
     if adds_to(known.register.number(), &word.ins) {
         let value = target_from(&word.ins, known.value);

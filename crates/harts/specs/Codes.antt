@@ -9,12 +9,16 @@ use Rattle.harts.specs.HartSteps.{Counted}
 
 -- a hart as its parts
 abbrev pub hart_code : Coded Hart
-hart_code = code_by (List ℕ × (ℕ × (List (ℕ × ℕ) × Outcome))) (coded× (coded_list coded_ℕ) (coded× coded_ℕ (coded× (coded_list (coded× coded_ℕ coded_ℕ)) (outcome.the_row).coded))) (λ h. (h.regs, (h.pc, (h.ranges, h.outcome)))) (λ p. record { regs = p.0; pc = p.1.0; ranges = p.1.1.0; outcome = p.1.1.1 }) (λ _. refl)
+hart_code = code_by (List ℕ × (ℕ × (List (ℕ × ℕ) × Outcome)))
+    (coded× (coded_list coded_ℕ) (coded× coded_ℕ (coded× (coded_list (coded× coded_ℕ coded_ℕ)) (outcome.the_row).coded)))
+    (λ h. (h.regs, (h.pc, (h.ranges, h.outcome)))) (λ p. record { regs = p.0; pc = p.1.0; ranges = p.1.1.0; outcome = p.1.1.1 }) (λ _. refl)
 
 -- a world as its harts and its memory
 abbrev pub world_code : Coded World
-world_code = code_by (List Hart × Memory) (coded× (coded_list hart_code) memory_code) (λ w. (w.harts, w.memory)) (λ p. record { harts = p.0; memory = p.1 }) (λ _. refl)
+world_code = code_by (List Hart × Memory) (coded× (coded_list hart_code) memory_code)
+    (λ w. (w.harts, w.memory)) (λ p. record { harts = p.0; memory = p.1 }) (λ _. refl)
 
 -- a world as its harts, its memory and the steps of each hart
 abbrev pub counted_code : Coded Counted
-counted_code = code_by (World × List ℕ) (coded× world_code (coded_list coded_ℕ)) (λ c. (c.world, c.steps)) (λ p. record { world = p.0; steps = p.1 }) (λ _. refl)
+counted_code = code_by (World × List ℕ) (coded× world_code (coded_list coded_ℕ))
+    (λ c. (c.world, c.steps)) (λ p. record { world = p.0; steps = p.1 }) (λ _. refl)

@@ -78,11 +78,15 @@ pub record ShowsCounted (g : Program) (i : ℕ) (c : Counted) (s : State) (n : �
 
 -- after any schedule each hart stands as its run alone does, with as many steps
 abbrev pub CountedTogether : Type 0
-CountedTogether = (gs : List Program) (cs : ℕ → List Change) (ts : List ℕ) → AreAlone gs cs ts → (i : ℕ) (g : Program) → IsProgram gs i g → ShowsCounted g i (counted_after gs cs ts) (own_run cs ts i g) (own_steps (start g zeros) (cs i) (hart_turns ts i))
+CountedTogether = (gs : List Program) (cs : ℕ → List Change) (ts : List ℕ) → AreAlone gs cs ts → (i : ℕ) (g : Program) → IsProgram gs i g
+    → ShowsCounted g i (counted_after gs cs ts) (own_run cs ts i g) (own_steps (start g zeros) (cs i) (hart_turns ts i))
 
 -- without changes each hart stands as a run of its file does, with as many steps
 abbrev pub TurnsRun : Type 0
-TurnsRun = (gs : List Program) (ts : List ℕ) → AreAlone gs (λ i. []) ts → (i : ℕ) (g : Program) → IsProgram gs i g → ShowsCounted g i (counted_turns (counted_start gs) ts) (progress (begun (start g zeros)) (hart_turns ts i)).state (progress (begun (start g zeros)) (hart_turns ts i)).steps
+TurnsRun = (gs : List Program) (ts : List ℕ) → AreAlone gs (λ i. []) ts
+    → (i : ℕ) (g : Program) → IsProgram gs i g
+    → ShowsCounted g i (counted_turns (counted_start gs) ts)
+    (progress (begun (start g zeros)) (hart_turns ts i)).state (progress (begun (start g zeros)) (hart_turns ts i)).steps
 
 -- ---- what is promised of a file
 -- the state of hart i after turns without changes, k of them its own
@@ -97,4 +101,5 @@ pub record StandsAfter (gs : List Program) (ts : List ℕ) (i k : ℕ) (u : Stat
 abbrev pub TurnsKeep : List Program → List ℕ → Type 0
 TurnsKeep gs ts =
     ((i : ℕ) (g : Program) → IsProgram gs i g → NotTrapped (own_run (λ i. []) ts i g))
-    → (i : ℕ) (f g : Program) (reached : ℕ → Bool) (first bound : ℕ) → IsProgram gs i g → Kept f g reached first bound → HartKept f reached first bound (StandsAfter gs ts i)
+    → (i : ℕ) (f g : Program) (reached : ℕ → Bool) (first bound : ℕ)
+    → IsProgram gs i g → Kept f g reached first bound → HartKept f reached first bound (StandsAfter gs ts i)

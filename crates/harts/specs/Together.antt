@@ -51,7 +51,8 @@ pub record Shows (g : Program) (i : ℕ) (w : World) (s : State) : Type 0 where
 
 -- after any schedule each hart stands as its run alone does
 abbrev pub Together : Type 0
-Together = (gs : List Program) (cs : ℕ → List Change) (ts : List ℕ) → AreAlone gs cs ts → (i : ℕ) (g : Program) → IsProgram gs i g → Shows g i (world_after gs cs ts) (own_run cs ts i g)
+Together = (gs : List Program) (cs : ℕ → List Change) (ts : List ℕ)
+    → AreAlone gs cs ts → (i : ℕ) (g : Program) → IsProgram gs i g → Shows g i (world_after gs cs ts) (own_run cs ts i g)
 
 -- ---- the promises of a hart
 -- hart i with the memory, after a schedule with k turns and these changes of its own, and any changes of other harts
@@ -92,7 +93,8 @@ pub record SameHart (g : Program) (u v : State) : Type 0 where
 pub record SettlesInTurns (g : Program) (t b : ℕ) (changed unchanged : ℕ → State → Type 0) : Type 0 where
   pub turns : ℕ
   pub within : turns ≤ t + b
-  pub settled : ((u : State) → changed turns u → u.outcome ≡ Fired) ⊎ (((u : State) → changed turns u → u.outcome ≡ Ended) ⊎ ((t ≤ turns) × ((u v : State) → changed turns u → unchanged turns v → SameHart g u v)))
+  pub settled : ((u : State) → changed turns u → u.outcome ≡ Fired) ⊎ (((u : State) → changed turns u → u.outcome ≡ Ended)
+      ⊎ ((t ≤ turns) × ((u v : State) → changed turns u → unchanged turns v → SameHart g u v)))
 
 -- changes of originals that are open in the hart's run without changes settle, while the input's run is steady
 pub record HartCaught (f g : Program) (reached : ℕ → Bool) (spans : List (ℕ × ℕ)) (bounds : Bounds) (seen : List Change → ℕ → State → Type 0) : Type 0 where
@@ -104,5 +106,7 @@ pub record HartCaught (f g : Program) (reached : ℕ → Bool) (spans : List (�
 -- if a hart's file is the output of some input, the promises on the output's runs alone hold of the hart, in its own
 -- turns, in every schedule
 pub record PerHart : Type 0 where
-  pub kept : (gs : List Program) (i : ℕ) (f g : Program) (reached : ℕ → Bool) (first bound : ℕ) → IsProgram gs i g → Kept f g reached first bound → HartKept f reached first bound (IsSeen gs i [])
-  pub caught : (gs : List Program) (i : ℕ) (f g : Program) (reached : ℕ → Bool) (spans : List (ℕ × ℕ)) (bounds : Bounds) → IsProgram gs i g → Caught f g reached spans bounds → HartCaught f g reached spans bounds (IsSeen gs i)
+  pub kept : (gs : List Program) (i : ℕ) (f g : Program) (reached : ℕ → Bool) (first bound : ℕ)
+      → IsProgram gs i g → Kept f g reached first bound → HartKept f reached first bound (IsSeen gs i [])
+  pub caught : (gs : List Program) (i : ℕ) (f g : Program) (reached : ℕ → Bool) (spans : List (ℕ × ℕ)) (bounds : Bounds)
+      → IsProgram gs i g → Caught f g reached spans bounds → HartCaught f g reached spans bounds (IsSeen gs i)

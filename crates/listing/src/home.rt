@@ -17,7 +17,8 @@ fn holds(segment: &Segment, range: Span) -> bool
 
 /// The first loaded segment in which a range lies.
 fn first_home<'a>(segments: &'a [Segment], range: Span) -> Option<&'a Segment>
-    ensures { MatchOption result (is_held (span range) (load_segments segments.now) ≡ false) (λ s. Contains segments.now s.now × (s.now.kind ≡ 1) × (holds_range (load_segment s.now) (span range) ≡ true)) }
+    ensures { MatchOption result (is_held (span range) (load_segments segments.now) ≡ false) (λ s.
+        Contains segments.now s.now × (s.now.kind ≡ 1) × (holds_range (load_segment s.now) (span range) ≡ true)) }
 {
     for segment in segments {
         if segment.is_load() && holds(segment, range) {

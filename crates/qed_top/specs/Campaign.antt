@@ -61,4 +61,5 @@ Campaigns bytes o draws results answer = Makes bytes o (IsStruck bytes o draws r
 abbrev pub CampaignDecides : List ℕ → Options → Draws → Status → Type 0
 CampaignDecides bytes o draws status =
     MakesDecides bytes o
-    ((course : Prepared) (struck : List Struck) (trapped : Option ℕ) → IsCourse bytes o course → IsCarriedOut course draws struck trapped → status ≡ campaign_status trapped) status
+    ((course : Prepared) (struck : List Struck) (trapped : Option ℕ)
+    → IsCourse bytes o course → IsCarriedOut course draws struck trapped → status ≡ campaign_status trapped) status

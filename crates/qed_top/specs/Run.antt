@@ -64,7 +64,8 @@ pub data InMemoryDecides (f : ElfFile) (done status : Status) : Type 0 where
 
 -- a file is run, and a text about its jumps, which may be empty, is printed too
 abbrev pub HasRun : ElfFile → ℕ → List Change → List ℕ → Option (ℕ × ℕ) → Answer → Type 0
-HasRun f steps changes jumps dump answer = PrintsOnly (outcome_status (run_of f steps changes).state.outcome) (run_text (run_of f steps changes) jumps dump) answer
+HasRun f steps changes jumps dump answer =
+    PrintsOnly (outcome_status (run_of f steps changes).state.outcome) (run_text (run_of f steps changes) jumps dump) answer
 
 abbrev pub FileRuns : ElfFile → ℕ → List Change → List ℕ → Option (ℕ × ℕ) → Answer → Type 0
 FileRuns f steps changes jumps dump answer = InMemory f (HasRun f steps changes jumps dump answer) answer

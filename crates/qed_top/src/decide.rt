@@ -80,7 +80,8 @@ pub fn decide<S: Shelf>(
     shelf: &mut S,
     progress: &mut dyn Progress,
 ) -> Result<Answer, AllocError>
-    ensures meant { IfOk result (λ answer. OverLoads (S.files shelf.old) (λ loads. WordsCallFor (texts words.now) loads (LoadRose S.Shelf shelf.old shelf.new) answer)) }
+    ensures meant { IfOk result (λ answer. OverLoads (S.files shelf.old) (λ loads.
+        WordsCallFor (texts words.now) loads (LoadRose S.Shelf shelf.old shelf.new) answer)) }
     ensures files { S.files shelf.new ≡ S.files shelf.old }
     ensures stores { NoneFell (S.store_faults shelf.old) (S.store_faults shelf.new) }
     ensures steady { IfOk result (SteadyOrReadFault (IsSteady S.Shelf shelf.old shelf.new)) }

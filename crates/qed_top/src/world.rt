@@ -147,7 +147,8 @@ fn read_one<S: Shelf>(
     ensures apart { IfOk result (λ read. IfOk read (λ file. AreApart (load_segments file.segments))) }
     ensures loaded { IfOk result (λ read. OnOk read (IsSteady S.Shelf shelf.old shelf.new)) }
     ensures other { IfOk result (λ read. IfErr read (λ answer. OverFiles (S.files shelf.old) (λ files.
-        CallsFor RunFileBytes (file_bytes files name.now) (LoadRose S.Shelf shelf.old shelf.new name.now) (IsUnread (file_bytes files name.now) answer) answer))) }
+        CallsFor RunFileBytes (file_bytes files name.now) (LoadRose S.Shelf shelf.old shelf.new name.now)
+        (IsUnread (file_bytes files name.now) answer) answer))) }
     ensures files { S.files shelf.new ≡ S.files shelf.old }
     ensures stores { NoneFell (S.store_faults shelf.old) (S.store_faults shelf.new) }
     ensures steady { IfOk result (λ read. IfErr read (SteadyOrReadFault (IsSteady S.Shelf shelf.old shelf.new))) }
@@ -201,7 +202,8 @@ pub fn answer_harts<S: Shelf>(
     shelf: &mut S,
 ) -> Result<Answer, AllocError>
     requires { IsSoundSchedule names.now turns steps }
-    ensures meant { IfOk result (λ answer. OverLoads (S.files shelf.old) (λ loads. FilesCallFor names.now [] turns steps loads (LoadRose S.Shelf shelf.old shelf.new) answer)) }
+    ensures meant { IfOk result (λ answer. OverLoads (S.files shelf.old) (λ loads.
+        FilesCallFor names.now [] turns steps loads (LoadRose S.Shelf shelf.old shelf.new) answer)) }
     ensures files { S.files shelf.new ≡ S.files shelf.old }
     ensures stores { NoneFell (S.store_faults shelf.old) (S.store_faults shelf.new) }
     ensures steady { IfOk result (SteadyOrReadFault (IsSteady S.Shelf shelf.old shelf.new)) }

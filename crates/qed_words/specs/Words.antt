@@ -265,7 +265,17 @@ entries n = if n == 0 then entry.All else entry.Reached
 
 -- the default options of the lean form: longer pieces and more visits, since one check serves many blocks
 abbrev pub lean_options : Options
-lean_options = record { inst_min = 4; inst_max = LEAN_INST_MAX; round = LEAN_ROUND; half = None; sweep = false; diverse = false; entries = entry.Reached; lean = Some LEAN_EVERY; land = false }
+lean_options = record {
+  inst_min = 4;
+  inst_max = LEAN_INST_MAX;
+  round = LEAN_ROUND;
+  half = None;
+  sweep = false;
+  diverse = false;
+  entries = entry.Reached;
+  lean = Some LEAN_EVERY;
+  land = false;
+}
 
 unfoldable pub usual_options : List Argument → Options
 usual_options given = if lacks given Lean then default_options else lean_options
@@ -376,7 +386,8 @@ topic_reason _ given = None
 unfoldable pub reason_of : Command → List Argument → Option Reason
 reason_of command given =
     first_reason
-    (first_wrong command [] given ∷ missing command given ∷ first_wrong_value command given ∷ split_reason given ∷ missing_lean given ∷ lean_reason given ∷ window_reason given ∷ topic_reason command given ∷ [])
+    (first_wrong command [] given ∷ missing command given ∷ first_wrong_value command given ∷ split_reason given
+    ∷ missing_lean given ∷ lean_reason given ∷ window_reason given ∷ topic_reason command given ∷ [])
 
 abbrev pub answer : Order → Option Reason → Result Order Reason
 answer o None = Ok o

@@ -19,7 +19,9 @@ bound_data (Some bound) = count bound
 -- the bounds, in steps
 abbrev pub bounds_data : Bounds → Data
 bounds_data bounds =
-    object (member (codes "piece") (count bounds.piece) (member (codes "register") (count bounds.register) (member (codes "word") (bound_data bounds.word) no_members)))
+    object (member (codes "piece") (count bounds.piece)
+    (member (codes "register") (count bounds.register)
+    (member (codes "word") (bound_data bounds.word) no_members)))
 
 -- the address of a leader in the input, and that of its entry in the output
 abbrev pub entry_data : EntryRow → Data
@@ -32,7 +34,10 @@ piece_data row = array (item (count row.entry) (item (count row.first) (item (co
 -- addresses, sizes in bytes, and the number of data words
 abbrev pub plan_numbers : Plan → Members
 plan_numbers plan =
-    member (codes "base") (count plan.base) (member (codes "code") (count plan.code_bytes) (member (codes "half") (count plan.distance) (member (codes "words") (count plan.words) no_members)))
+    member (codes "base") (count plan.base)
+    (member (codes "code") (count plan.code_bytes)
+    (member (codes "half") (count plan.distance)
+    (member (codes "words") (count plan.words) no_members)))
 
 -- a plan: its numbers, bounds, entries and pieces
 abbrev pub plan_data : Plan → Data

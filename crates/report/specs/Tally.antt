@@ -34,5 +34,6 @@ counted t = t.fired + t.ended.count + t.same + t.closed + t.not_reached
 
 abbrev pub tally_text : Tally → List ℕ
 tally_text t =
-    codes "fired " ++ (decimal t.fired ++ (codes ", ended " ++ (ends_text t.ended.count t.ended.right ++ (codes ", same " ++ (decimal t.same ++ (codes ", closed " ++ (decimal t.closed
+    codes "fired " ++ (decimal t.fired ++ (codes ", ended " ++ (ends_text t.ended.count t.ended.right
+    ++ (codes ", same " ++ (decimal t.same ++ (codes ", closed " ++ (decimal t.closed
     ++ (codes ", not reached " ++ (decimal t.not_reached ++ (codes ", longest " ++ decimal t.longest))))))))))

@@ -114,7 +114,8 @@ pub fn generate(alloc: Global, seed: u64, size: u64) -> Result<Bytes, AllocError
     ensures file { IfOk result (λ bytes. bytes ≡ written (generated seed size)) }
     ensures readable { IfOk result (λ bytes. IsReadAs bytes (file_read (generated seed size))) }
     ensures admitted { IfOk result (λ bytes. (f : ElfFile) → IsReadAs bytes f → IsAdmitted f default_options) }
-    ensures ends { IfOk result (λ bytes. (f : ElfFile) → IsReadAs bytes f → (regs : List ℕ) → AreStartRegs regs → EndsAfter (start (loaded_file f) regs) (test_steps size)) }
+    ensures ends { IfOk result (λ bytes. (f : ElfFile) → IsReadAs bytes f
+        → (regs : List ℕ) → AreStartRegs regs → EndsAfter (start (loaded_file f) regs) (test_steps size)) }
     ensures weavable { IfOk result IsWeavable }
 {
     let file = file_with(alloc, seed, function_count(size))?;

@@ -104,12 +104,14 @@ abbrev pub verdicts_text : Option (List Bool) → List Struck → List ℕ
 verdicts_text rights ss =
     codes "strikes " ++ (decimal (length ss) ++ (codes ", fired " ++ (decimal (how_many is_fired ss) ++ (codes ", ended "
     ++ (ends_text (how_many is_ended ss) (option_map how_many_right rights)
-    ++ (codes ", same " ++ (decimal (how_many is_same ss) ++ (codes ", closed " ++ (decimal (how_many is_closed ss) ++ (codes ", not reached " ++ decimal (how_many is_not_reached ss)))))))))))
+    ++ (codes ", same " ++ (decimal (how_many is_same ss)
+    ++ (codes ", closed " ++ (decimal (how_many is_closed ss) ++ (codes ", not reached " ++ decimal (how_many is_not_reached ss)))))))))))
 
 -- the last line: the verdicts, the longest time until a check fired, and the bounds, in steps
 abbrev pub summary_line : Option (List Bool) → List Struck → Plan → List ℕ
 summary_line rights ss plan =
-    verdicts_text rights ss ++ (codes ", longest " ++ (decimal (longest ss) ++ (codes ", " ++ (bounds_text plan.bounds.register plan.bounds.word ++ codes "\n"))))
+    verdicts_text rights ss
+    ++ (codes ", longest " ++ (decimal (longest ss) ++ (codes ", " ++ (bounds_text plan.bounds.register plan.bounds.word ++ codes "\n"))))
 
 -- the input's own run trapped: no verdict is possible
 abbrev pub trapped_line : ℕ → List ℕ
