@@ -36,13 +36,13 @@ pub data GivesAny (i : Ins) (u v : State) : Type 0 where
   gives : (x : ℕ) → v ≡ moved (set_reg i.rd x u.regs) (next_pc u) u → GivesAny i u v
   skips : v ≡ moved u.regs (next_pc u) u → GivesAny i u v
 
--- the same of a store
+-- a store that stores any number at its place, or is skipped
 pub data StoresAny (i : Ins) (u v : State) : Type 0 where
   stores : (x : ℕ) → v ≡ stored (put u.memory (place i u) (width_of i.kind) x) (next_pc u) u → StoresAny i u v
   leaves : v ≡ moved u.regs (next_pc u) u → StoresAny i u v
 
 -- ---- the promise
--- wherever the output's run without faults goes on at such an instruction, as long as the input is steady for the steps that are made of it
+-- wherever the output's run without faults goes on at such an instruction, while the input is steady for its steps
 pub record FaultsFound (f g : Program) (reached : ℕ → Bool) (spans : List (ℕ × ℕ)) (bounds : Bounds) (first bound : ℕ) : Type 0 where
   pub results :
       (regs : List ℕ) (n : ℕ) (i : Ins) (v : State) → AreStartRegs regs → (after_output g regs n).outcome ≡ Going → next (after_output g regs n) ≡ Known i → WritesOriginal i

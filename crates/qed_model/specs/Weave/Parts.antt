@@ -1,5 +1,5 @@
--- What the items of the new code are for: its sequences in parts of one role, in which each comparison of a register with its pair has a
--- role of its own.
+-- What the items of the new code are for: its sequences in parts of one role, in which each comparison of a register
+-- with its pair has a role of its own.
 use Rattle.std.specs.Prelude.{◌≡◌, ℕ, ◌+◌, ◌-◌, ◌*◌, ◌==◌, if◌then◌else◌, Bool, Option, Some, None, List, [], ◌∷◌, ◌++◌, length}
 use Rattle.rv_isa.specs.declared.profile.TheConstants.{PAIR_DISTANCE}
 use Rattle.rv_isa.specs.declared.class.Class.TheVariants as class
@@ -100,7 +100,7 @@ role_in of (Some r) here = comparison_role of r
 role_in of None (Some r) = comparison_role of r
 role_in of None None = of
 
--- the items of a part with their roles, each with its bytes in the near or in the far form; the item before compares a register, or none
+-- a part's items with their roles and their bytes, near or far; the register that the item before compares, or None
 abbrev pub item_rows : Bool → Role → Option ℕ → List Item → List RoleRow
 item_rows far of before [] = []
 item_rows far of before (i ∷ is) = record { role = role_in of before (compares i); bytes = size_of far i } ∷ item_rows far of (compares i) is

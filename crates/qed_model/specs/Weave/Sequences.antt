@@ -1,6 +1,6 @@
--- The code sequences of the new code (this project's profile), as lists of items, and what it means that words stand for them.
--- x17 to x29 hold the duplicates of x1 to x13, x14 the distance of the halves, x15 the address of the next visited data word, x16
--- the signature, and x30 and x31 are temporaries.
+-- The code sequences of the new code (this project's profile), as lists of items, and when words stand for them.
+-- Duplicates of x1 to x13 are x17 to x29. The distance of the halves is in x14, the address of the next visited data
+-- word in x15, the signature in x16. Temporaries are x30 and x31.
 use Rattle.std.specs.Prelude.{◌≡◌, ℕ, zero, suc, ◌+◌, ◌%◌, ◌^◌, Bool, cond, ◌==◌, List, [], ◌∷◌, ◌++◌, length, pos, neg_ℤ}
 pub use Rattle.rv_isa.specs.declared.profile.TheConstants.{ORIGINALS, LAST_ORIGINAL, PAIR_DISTANCE, DISTANCE, CURSOR, SIGNATURE, TEMPORARY, SPARE}
 pub use Rattle.rv_isa.specs.declared.ins.Ins.{Ins}
@@ -15,7 +15,7 @@ use Rattle.machine.specs.Offsets.{distance_between, upper_part, lower_part}
 use Rattle.machine.specs.Operands.{is_auipc}
 use Rattle.qed_model.specs.Weave.Placed.{go_words, go_size}
 
--- the words from an address on stand for the items, in the near or in the far form, where `entry` gives the entry of an input
+-- the words from an address on stand for the items, in the near or in the far form; `entry` gives the entry of an input
 -- address
 abbrev pub Reads : Bool → (ℕ → Fetched) → (ℕ → ℕ) → ℕ → List Item → Type 0
 Reads far c entry a [] = Unit {0}
@@ -76,8 +76,8 @@ wraps [] first = []
 wraps (r ∷ []) first = Constant TEMPORARY r.1 ∷ Plain (ins Bne 0 CURSOR TEMPORARY (pos 12)) ∷ Constant CURSOR first ∷ []
 wraps (r ∷ n ∷ rs) first = Constant TEMPORARY r.1 ∷ Plain (ins Bne 0 CURSOR TEMPORARY (pos 12)) ∷ Constant CURSOR n.0 ∷ wraps (n ∷ rs) first
 
--- one visited data word: fires where the word and its duplicate differ, and moves the cursor to the next word, behind the last one
--- to the first; nothing where there is no data range
+-- one visited data word: fires if the word and its duplicate differ, and moves the cursor to the next word, from the
+-- last one to the first; nothing without data ranges
 abbrev pub visit_word : List (ℕ × ℕ) → List Item
 visit_word [] = []
 visit_word (r ∷ rs) =
@@ -109,8 +109,8 @@ sweep (r ∷ rs) = sweep_range r ++ sweep rs
 abbrev pub guards_of : Ins → List Item
 guards_of i = guard i.rs1 ++ cond (i.rs2 == i.rs1) [] (guard i.rs2)
 
--- the original part of an instruction at an input address, by its class: the base of an access and a stored register are
--- guarded
+-- the original part of an instruction at an input address, by its class: the base of an access and a stored register
+-- are guarded
 abbrev pub original_as : Class → Ins → ℕ → List Item
 original_as class.Load i at = guard i.rs1 ++ (Plain i ∷ [])
 original_as class.Store i at = guards_of i ++ (Plain i ∷ [])
@@ -158,8 +158,8 @@ go_on n = Constant SIGNATURE n ∷ Go n ∷ []
 abbrev pub before_end : Form → List Item
 before_end form = cond form.sweep (sweep form.spans ++ compare) []
 
--- the leave of an instruction at an input address, by its class: the pairs choose the signature, the originals the way, and the
--- target of a JALR is looked up in the table; a branch that is taken skips the first of two jumps
+-- the leave of an instruction at an input address, by its class. The pairs choose the signature, the originals the way.
+-- The table gives the target of a JALR. A branch that is taken skips the first of two jumps
 abbrev pub leave_as : Form → Class → Ins → ℕ → List Item
 leave_as form class.End i at = before_end form ++ (Plain i ∷ [])
 leave_as form class.Jump i at = links i at ++ go_on (target i at)
@@ -178,7 +178,7 @@ leave form Falls at = go_on at
 leave form (Stops i) at = leave_as form (class_of i.kind) i at
 
 -- ---- blocks
--- a block: its first input address, the pieces of its body, its end, and whether it is marked as one to which a jump by register may lead
+-- a block: its first input address, its pieces, its end, and the mark of those to which a jump by register may lead
 pub record Block : Type 0 where
   pub start : ℕ
   pub body : List (List Ins)
