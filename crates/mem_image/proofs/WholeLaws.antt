@@ -151,7 +151,7 @@ refused_whole need ss k s a n h e low room t =
     let same : wrap a ≡ a = omega arith in
     rw (same, ap (allows need) (get_whole ss k s a h e (has_span s a (suc n) a low room (omega arith) (omega arith))), t) refl
 
--- ---- the same, by what the code knows
+-- ---- the bytes of an access, by what the code knows
 -- the segment that the code reads at the place that was found
 pub here_whole : (ss l : List LoadSegment) (a n k : ℕ) (s : LoadSegment) → l ≡ ss → IsWholeAt l a n k → k < length l → s ≡ get_or ss k s → (slice_get ss k ≡ Some s) × (has_all s a n ≡ true)
 here_whole ss l a n k s e h below read =

@@ -49,7 +49,7 @@ pub record AreSound (ss : List LoadSegment) : Type 0 where
   pub fit : AllFitMemory ss
   pub ascends : Ascends 0 ss
 
--- why there is no image: the least pair that shares a byte, or, where none does, a lack of memory
+-- the reason against an image: the least pair that shares a byte, or else a lack of memory
 abbrev pub Explains : List LoadSegment → ImageError → Type 0
 Explains ss (Overlap i j) = IsLeastPair (Overlaps ss) i j
 Explains ss Memory = AreApart ss

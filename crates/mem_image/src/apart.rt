@@ -9,8 +9,8 @@ use crate::held::Held;
 use crate::places::place;
 use std::alloc::AllocError;
 
-/// Sets the bytes of a value from number `from` on at those of `width` addresses that are mapped, where the bytes before were set.
-/// Each page is kept until the later bytes are set, so that all stays where there is no memory.
+/// Sets the bytes of a value from number `from` on at those of `width` addresses that are mapped; those before are set.
+/// Each page is kept until the later bytes are set, so that without memory all stays.
 pub fn put_from(
     pages: &mut [Held],
     address: u64,

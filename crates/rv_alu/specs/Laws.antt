@@ -50,7 +50,7 @@ value-same Lui f i pc regs others h g = refl
 value-same Auipc f i pc regs others h g = refl
 value-same k f i pc regs others h g = rw (h refl, g) refl
 
--- the same number is written
+-- both write an equal number
 written : (f : ℕ → ℕ) → f 0 ≡ 0 → (i : Ins) (pc : ℕ) (regs others : List ℕ) → IsComputing (class_of i.kind) → AreRegs regs → AreRegs others → SameSources f i regs others → computed_value i.kind (renamed_by f i) pc others ≡ computed_value i.kind i pc regs
 written f z i pc regs others c a b s =
     value-same i.kind f i pc regs others

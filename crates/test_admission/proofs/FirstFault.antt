@@ -33,7 +33,7 @@ empty_passes r p k h = ap (is_at_fault r (p.start + 4 * k)) (zero_word p.bytes (
 found_in : (r : CodeRule) (p : Part) (k : ℕ) → k < filled p → faults_at r p k ≡ true → ((j : ℕ) → j < k → faults_at r p j ≡ false) → Some (p.start + 4 * k, word_in p.bytes (4 * k)) ≡ first_in r p
 found_in r p k lt h before = ap (option_map (placed_word p)) (sym (first_found (p.size / 4) (faults_at r p) k (omega (arith, lt)) h before))
 
--- the same of a word that was read
+-- what such a loop finds, of a word that was read
 pub found_word : (r : CodeRule) (p : Part) (k n word : ℕ) → word ≡ word_in p.bytes (4 * k) → k < n → n ≡ filled p → is_at_fault r (p.start + 4 * k) word ≡ true → ((j : ℕ) → j < k → faults_at r p j ≡ false) → Some (p.start + 4 * k, word) ≡ first_in r p
 found_word r p k n word is lt e h before = ap (λ x. Some (p.start + 4 * k, x)) is ∙ found_in r p k (omega (arith, lt, e)) (sym (ap (is_at_fault r (p.start + 4 * k)) is) ∙ h) before
 

@@ -1,4 +1,4 @@
--- The data ranges: what joins ranges gives the ranges that the sentences on them describe, and there is one list of such ranges.
+-- The data ranges: joining gives the ranges that the sentences on them describe, and there is one such list.
 use Rattle.std.proofs.Common.{◌≡◌, ◌⊎◌, inl, inr, ⊎_elim, ℕ, suc, ◌+◌, ◌%◌, ◌<◌, ◌≤◌, min, max, Bool, true, false, cond, ◌&&◌, ◌||◌, List, [], ◌∷◌, get_or, refl, sym, ap, ◌∙◌, subst, arith}
 use Rattle.std.specs.Prelude.{nat_lt, nat_le, All, AllPairs, map, filter}
 use Rattle.std.proofs.Math.Bool.{or_assoc}

@@ -1,5 +1,5 @@
--- The data of a test: which segments have it, and the ranges of aligned words that they make up. Ranges are by their first address
--- and the one behind their last. The form is this project's own.
+-- The data of a test: which segments have it, and the ranges of aligned words that they make up. Ranges are by their
+-- first address and the one behind their last. The form is this project's own.
 use Rattle.std.specs.Prelude.{◌≡◌, ◌↔◌, if◌then◌else◌, ℕ, ◌+◌, ◌-◌, ◌*◌, ◌/◌, ◌<◌, Bool, nat_lt, ◌&&◌, ◌||◌, not, min, max, cond, List, [], ◌∷◌, map, filter, All, AllPairs}
 use Rattle.std.specs.List.{list_any}
 pub use Rattle.elf_types.specs.declared.file.Segment.{Segment}
@@ -46,8 +46,8 @@ data_segments image = filter (is_data image) image
 abbrev pub data_parts : List Segment → List (ℕ × ℕ)
 data_parts image = map rounded (data_segments image)
 
--- the ranges ascend, each has some address, and there is a gap between any two; together they have the addresses of the parts. So
--- parts that touch or overlap are joined
+-- the ranges ascend, each has some address, and there is a gap between any two; together they have the addresses of the
+-- parts. So parts that touch or overlap are joined
 pub record AreJoined (parts ranges : List (ℕ × ℕ)) : Type 0 where
   pub some : All (λ r. r.0 < r.1) ranges
   pub gaps : AllPairs (λ r t. r.1 < t.0) ranges

@@ -1,5 +1,5 @@
--- Reached addresses: the code addresses to which a jump by register may lead, as far as the file shows. The form is this project's own:
--- more addresses than a run uses do no harm.
+-- Reached addresses: the code addresses to which the file shows that a jump by register may lead. The form is this
+-- project's own: more addresses than a run uses do no harm.
 use Rattle.std.specs.Prelude.{◌≡◌, ℕ, ◌+◌, ◌-◌, ◌%◌, ◌^◌, ◌==◌, ◌&&◌, ◌||◌, not, nat_lt, nat_le, cond, Bool, true, false, List, [], ◌∷◌, map, take, drop}
 use Rattle.std.specs.List.{list_any}
 use Rattle.rv_isa.specs.declared.class.Class.TheVariants as class
@@ -123,8 +123,8 @@ is_made t a [] = false
 is_made t a (c ∷ cs) = made_by t (take 16 cs) c a || is_made t a cs
 
 -- ---- all of them
--- the address is the entry, a link, named by a symbol or a relocation, a word of the image, or a constant or led to by one. Of code
--- addresses it says whether they are reached
+-- the address is the entry, a link, named by a symbol or a relocation, a word of the image, or a constant or led to by
+-- one. For code addresses it says whether they are reached
 abbrev pub is_reached : ElfFile → Test → ℕ → Bool
 is_reached f t a =
     (t.entry == a)
@@ -140,6 +140,6 @@ pub record IsReached (f : ElfFile) (o : Options) (a : ℕ) : Type 0 where
   pub told : IsTestOf f o test
   pub reached : is_reached f test a ≡ true
 
--- addresses to which a jump by register may lead: any, but where only those that are reached have entries each is one of these
+-- addresses to which a jump by register may lead: any, but only reached ones if only those have entries
 abbrev pub AreReached : ElfFile → Options → (ℕ → Bool) → Type 0
 AreReached f o addresses = o.entries ≡ entries.Reached → (a : ℕ) → addresses a ≡ true → IsReached f o a

@@ -33,7 +33,7 @@ pub record HasTooManyWords (f : ElfFile) (n : ℕ) : Type 0 where
   pub count : n ≡ length addresses
   pub over : limit_of limit.CodeWords < n
 
--- the rule that an error names holds, with the place or number that it carries; want of memory is no rule
+-- the rule that an error names holds, with the place or number that it carries; want of memory is not a rule
 abbrev pub HasFault : ElfFile → Options → AdmitError → Type 0
 HasFault f o error.Compressed = is_compressed f ≡ true
 HasFault f o error.Dynamic = is_dynamic f.segments ≡ true

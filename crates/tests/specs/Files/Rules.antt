@@ -1,4 +1,4 @@
--- The rules by which a file is refused, each a sentence on its bytes, and the first of them that holds. Sums do not wrap. The sources are the ELF gABI and the RISC-V ELF psABI.
+-- The rules that refuse a file, sentences on its bytes, and the first that holds (ELF gABI, psABI). Sums do not wrap.
 use Rattle.std.specs.Prelude.{◌≡◌, ℕ, ◌+◌, ◌-◌, ◌*◌, ◌/◌, ◌%◌, ◌^◌, ◌<◌, ◌==◌, nat_lt, nat_le, min, Bool, false, ◌&&◌, ◌||◌, not, if◌then◌else◌, Option, Some, None, Result, Ok, Err, List, [], ◌∷◌, length, take, drop, slice_index}
 use Rattle.std.specs.Option.{is_some, unwrap_or}
 use Rattle.elf_types.specs.declared.error.ElfError.{ElfError}
@@ -103,7 +103,7 @@ header_rules file =
 
 -- ---- the parts that lie in the file
 
--- so many bytes from a place on end past the end of the file
+-- n bytes from a place on end past the end of the file
 abbrev pub is_past : List ℕ → ℕ → ℕ → Bool
 is_past file place size = nat_lt (length file) (place + size)
 
@@ -177,7 +177,7 @@ name_at strings place = if place == 0 then [] else take (unwrap_or (name_length 
 abbrev pub names_header : List ℕ → SectionHeader
 names_header file = section_header file (e_shstrndx file)
 
--- section i is in memory and ends past 2^64; or should hold the names, and is no string table; or its name has no end
+-- section i in memory ends past 2^64; or it should hold the names, but is not a string table; or its name has no end
 unfoldable pub is_section_misshapen : List ℕ → ℕ → Bool
 is_section_misshapen file i =
     (has_alloc (section_header file i).flags && nat_lt (2 ^ 64) ((section_header file i).addr + (section_header file i).size))
