@@ -1,4 +1,4 @@
--- The lean form of a test: its items are those of its file, they can be linked where they are few, and what is linked is its code.
+-- The lean form of a test: its items are those of its file; they can be linked if few, and what is linked is its code.
 use Rattle.std.proofs.Common.{◌≡◌, Bool, ℕ, ◌+◌, ◌-◌, ◌^◌, ◌<◌, ◌≤◌, false, List, [], ◌++◌, length, map, refl, sym, ap, ◌∙◌, subst, arith, append_assoc}
 use Rattle.std.specs.Prelude.{All, AllPairs, get_or}
 use Rattle.std.specs.List.{list_all}
@@ -51,7 +51,7 @@ use Rattle.lean.specs.Code.{lean_with, code_with, items_with, parts_with, IsLean
 use Rattle.lean.specs.Form.{code_at, code_of, parts_of, kind, IsOwn}
 use Rattle.lean.proofs.Owned.{owned}
 
--- ---- what a weaver with what was counted of the test makes, is made of the test; the most instructions of a piece are not asked for
+-- ---- what a weaver makes by a test's counts is made of the test; it does not use the most instructions of a piece
 pub woven_is :
     {A : Type 0} (make : Form → ℕ → (ℕ → ℕ) → Lean → (ℕ → Bool) → A) (t : Test) (o : Options) (every : ℕ) (blocks : List Block) (span : List Range) (diverse : Bool) (ticks : ℕ → Bool) (most : ℕ → ℕ)
     → span ≡ t.span → diverse ≡ o.diverse → ((a : ℕ) → ticks a ≡ (lean_with t o every blocks).ticks a) → ((a : ℕ) → most a ≡ (lean_with t o every blocks).most a)

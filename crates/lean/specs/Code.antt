@@ -34,7 +34,7 @@ abbrev pub items_with : Test → Options → ℕ → List Block → (ℕ → ℕ
 items_with t o every blocks entry = code_to_stub (code_with t o every blocks entry) t.distance t.entry blocks
 
 -- ---- of a file
--- the file is an admitted test, of which this is told, and these are its blocks
+-- the file is an admitted test with these facts and these blocks
 pub record IsLeanCut (f : ElfFile) (o : Options) (every : ℕ) (t : Test) (blocks : List CodeBlock) : Type 0 where
   pub told : IsTestOf f o t
   pub cut : AreLeanBlocks f o every (map block_of blocks)

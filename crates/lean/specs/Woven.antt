@@ -53,8 +53,8 @@ weave_of w l leader = record {
   held = is_ticked_at l.every;
 }
 
--- The code is near, the halves are not too far from each other, and the check stands in its place. From each entry there are fewer steps to the next tick
--- than from check to check. Each leader has code, on its grain, its entry, and its place in the table
+-- The code is near, the halves are near enough, and the check is in its place. From an entry to the next tick there are
+-- fewer steps than from check to check. Each leader has code, on its grain, its entry, and its place in the table
 pub record LeanIn (w : World) (l : Lean) (leader : ℕ → Bool) : Type 0 where
   pub near : w.form.far ≡ false
   pub small : w.distance ≤ 2 ^ 32

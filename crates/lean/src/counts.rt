@@ -1,5 +1,5 @@
-//! Which blocks have a tick, and how many steps it counts: from the last block to the first, since a tick counts the steps of the
-//! blocks behind too, as far as these have none.
+//! Which blocks have a tick, and how many steps it counts: from the last block to the first, since a tick also counts
+//! the steps of blocks behind that have none.
 ghost use Rattle.std.specs.Prelude.{◌≡◌, ◌+◌, ◌-◌, ◌*◌, ◌%◌, ◌^◌, ◌<◌, ◌≤◌, ℕ, ◌==◌, ◌∷◌, List, All, AllPairs, IfOk, OnOk, map, min};
 ghost use Rattle.qed_model.specs.declared.steps.TheConstants.{LEAN_LEAVE_STEPS, MOST_OWED};
 ghost use Rattle.rv_isa.specs.Kind.{class_of};
@@ -137,8 +137,8 @@ fn add_goals(goals: &mut BTreeSet<u64>, end: &Option<Ins>, at: u64) -> Result<()
     Ok(())
 }
 
-/// Whether a block needs a tick: the first of the test, one to which a block from there on leads, and one from which on too many steps
-/// are.
+/// Whether a block needs a tick: the first of the test, one to which a block from there on leads, and one with too many
+/// steps from there on.
 fn needs_tick(terms: &Terms, block: &CodeBlock, behind: bool, most: u64) -> bool
     ensures { result ≡ needs_tick_of (counting terms.now) (block_of block.now) behind most }
 {
@@ -186,7 +186,7 @@ fn counts_in(alloc: Global, terms: &Terms) -> Result<Counts, AllocError>
     Ok(counts)
 }
 
-/// How many steps may be left to the tick before: those from check to check, less those that a block has at most, but 48 at most.
+/// How many steps may be left to the tick before: a period less those that a block has at most, but 48 at most.
 fn room(options: &Options, every: u64) -> u64
     requires { every ≤ 2047 }
     ensures value { result ≡ min (every - (entry_steps_of options.now.land + (LEAN_LEAVE_STEPS + 1) + cost_of options.now.diverse * options.now.inst_max)) MOST_OWED }
@@ -199,8 +199,8 @@ fn room(options: &Options, every: u64) -> u64
     if left < MOST_OWED { left } else { MOST_OWED }
 }
 
-/// Which blocks of a test in the lean form have a tick, and how many steps each counts, where a block that has none counts for the
-/// ticks before it. It takes time with the instructions, and for each block searches among them.
+/// Which blocks of a test in the lean form have a tick, and how many steps each counts; a block without one counts for
+/// the ticks before it. It takes time with the instructions, and for each block searches among them.
 ///
 /// Errors: want of memory.
 pub(crate) fn counts_of(

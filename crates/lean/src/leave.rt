@@ -264,7 +264,7 @@ impl<'a> LeanWeaver<'a> {
         put_guarded_leap(self.distance, ins, at, out)
     }
 
-    /// The leave of an instruction at `at` that ends the block that begins at `start`, without what stands before an ECALL.
+    /// The leave of an instruction at `at`, which ends the block that begins at `start`, after what precedes an ECALL.
     fn put_stop(&self, ins: &Ins, start: u64, at: u64, out: &mut Emit) -> Result<(), AllocError>
         requires fits { FitsLeave (class_of ins.now.kind) ins.now }
         requires near { TurnsAs (class_of ins.now.kind) ins.now start at }

@@ -24,7 +24,7 @@ pub(crate) fn is_store(ins: &Ins) -> bool
     matches!(ins.class(), Class::Store)
 }
 
-/// Gives x30 the address of a store in the other half by the pair of its base, and fires where the base is not that of x30.
+/// Gives x30 a store's address in the other half by the pair of its base, and fires if the base is not that of x30.
 fn put_guard_address(ins: &Ins, out: &mut Emit) -> Result<(), AllocError>
     requires { ins.now.rs1 ≤ LAST_ORIGINAL }
     ensures { OnOk result (out.new ≡ out.old ++ guard_address ins.now) }

@@ -2,14 +2,14 @@
 ghost use Rattle.lean.specs.Tests.{LeanTestsHaveWords, LeanTestsWritable, LeanTestsKept, LeanTestsCaught, LeanTestsFaults, LeanTestsLanded, LeanTestsStrayed, LeanTestsClean};
 ghost use Rattle.lean.specs.Woven.{LeanKept, LeanKeptInStep, LeanCaught, LeanLanded, LeanStrayed, LeanClean};
 
-/// A plan of the form keeps the input's values, with a bound on the steps of the output for each step of the input, and no check
-/// fires without changes.
+/// A plan of the form keeps the input's values, with a bound on the steps of the output for each step of the input, and
+/// no check fires without changes.
 pub fn lean_kept()
     ensures { LeanKept }
 {}
 
-/// In a plan of the form the output comes to the input's states in their order, each within the same bound, and ends with the input's
-/// values in both halves.
+/// In a plan of the form the output comes to the input's states in their order, each within the same bound, and ends
+/// with the input's values in both halves.
 pub fn lean_kept_in_step()
     ensures { LeanKeptInStep }
 {}
@@ -24,8 +24,8 @@ pub fn lean_landed()
     ensures { LeanLanded }
 {}
 
-/// In a plan of the form whose entries test the signature, a run that strays into a block under the signature of another one is over
-/// soon, where the block goes on by no register.
+/// In a plan of the form whose entries test the signature, a run that strays into a block under the signature of
+/// another one is over soon, if the block does not go on by a register.
 pub fn lean_strayed()
     ensures { LeanStrayed }
 {}

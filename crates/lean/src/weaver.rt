@@ -39,7 +39,7 @@ pub struct LeanWeaver<'a> {
     /// Where the check stands.
     pub(crate) check: u64,
     pub(crate) blocks: &'a [CodeBlock],
-    /// Where the entries stand, as far as that is known: from the entry of a block its tick calls the check.
+    /// Where the entries stand, if known: from the entry of a block its tick calls the check.
     pub(crate) entries: Vec<EntryRow>,
     /// Where others are.
     pub(crate) last: u64,

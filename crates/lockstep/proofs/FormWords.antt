@@ -1,4 +1,4 @@
--- Today's forms meet the laws of the words and of the entry, and so the promises of a plan follow from those of any weave.
+-- Today's forms meet the laws of the words and the entry, so the promises of a plan follow from those of any weave.
 use Rattle.std.proofs.Common.{◌≡◌, ℕ, zero, suc, ◌+◌, ◌*◌, ◌≤◌, List, [], ◌∷◌, ◌++◌, length, refl, sym, ap, ◌∙◌, subst, arith}
 use Rattle.std.proofs.Math.Nat.{mul-le-mul}
 use Rattle.qed_model.specs.Weave.Bounds.{visit_bound, word_bound}

@@ -24,7 +24,7 @@ leads_from S P R f None y s p = p
 leads_from S P R f (Some a) None s p = p
 leads_from S P R f (Some a) (Some b) s p = f a b s p
 
--- what is told then
+-- what is known then
 pub leads_to :
     (S : FolderState → Type 0) (P : FolderState → FolderState → Type 0) (T : FolderState → Type 0) → ((a b : FolderState) → S a → P a b → T b)
     → (x y : Option FolderState) → IfSome x S → Leads P x y → IfSome y T

@@ -29,8 +29,8 @@ abbrev pub files_left : Option ℕ → Files → List ℕ → List ℕ → Files
 files_left None old name bytes = old
 files_left (Some keep) old name bytes = map.insert old name (take keep bytes)
 
--- the bytes written, the calls that are to fail, how many bytes a write takes at most, where that is bounded, the calls made so far, and
--- the faults so far
+-- the bytes written, the calls that are to fail, how many bytes a write takes at most, if that is bounded, the calls
+-- made so far, and the faults so far
 pub record SinkState : Type 0 where
   pub bytes : List ℕ
   pub failing : List ℕ

@@ -66,7 +66,7 @@ lines_end g text made start now next f xs r y is step gives rest done closure te
     (YieldsList-end (YieldsList-from_slice_split g (λ b. b == newline) text (ap slice.split_rest gives ∙ rest) (ap slice.split_done gives ∙ done) (ap slice.split_callee gives ∙ closure) tests) xs now y r next is step).1
 
 -- ---- before a line
--- so many lines were counted, and the place is behind them
+-- n lines were counted, and the place is behind them
 pub record IsBefore (text : List ℕ) (n number : ℕ) (p : Place) : Type 0 where
   pub counted : number ≡ n
   pub placed : p ≡ place_behind (take n (lines_of text))

@@ -1,4 +1,4 @@
--- The leave of a JALR: the pair turns the signature, the guarded original is looked up in the table, and so is the signature.
+-- The leave of a JALR: the pair turns the signature; the guarded original is looked up, and so is the signature.
 use Rattle.std.proofs.Common.{◌≡◌, ℕ, zero, suc, ◌+◌, ◌-◌, ◌*◌, ◌/◌, ◌%◌, ◌^◌, ◌<◌, ◌≤◌, inl, inr, ⊎_elim, Bool, true, List, [], ◌∷◌, ◌++◌, length, refl, sym, ap, ◌∙◌, subst, arith}
 use Rattle.std.specs.Prelude.{pos, neg_ℤ, slice_index}
 use Rattle.rv_isa.specs.declared.class.Class.TheVariants as class

@@ -1,4 +1,4 @@
--- A plan of the lean form keeps the values, its code is calm, by its trace changes are caught, and with the sweep none is silent at the end.
+-- A plan of the lean form keeps the values, its code is calm, changes are caught, and the sweep leaves none silent.
 use Rattle.std.proofs.Common.{◌≡◌, ℕ, zero, suc, ◌+◌, ◌*◌, ◌^◌, ◌<◌, ◌≤◌, ⊎_elim, Bool, true, false, List, [], ◌++◌, length, Some, refl, sym, ap, ◌∙◌, subst, arith, append_assoc, length-append}
 use Rattle.qed_model.specs.declared.bounds.Bounds.{Bounds}
 use Rattle.tests.specs.Admission.DataRanges.{word_count}

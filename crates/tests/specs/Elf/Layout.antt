@@ -1,5 +1,4 @@
--- The written file: its parts in order, and their places. Names are of the ELF gABI; offsets are in bytes from its
--- first.
+-- The written file: its parts in order, and their places. Names are of the ELF gABI; offsets are in bytes from 0.
 use Rattle.std.specs.Prelude.{◌≡◌, ◌≢◌, ℕ, ◌+◌, ◌-◌, ◌*◌, ◌/◌, ◌^◌, ◌<◌, ◌≤◌, ◌==◌, Bool, true, false, nat_le, ◌&&◌, if◌then◌else◌, IsTrue, List, [], ◌∷◌, ◌++◌, length, map, replicate, All, AllPairs}
 use Rattle.std.specs.List.{list_any}
 use Rattle.elf_types.specs.declared.file.Segment.{Segment}
