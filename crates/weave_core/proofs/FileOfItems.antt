@@ -1,5 +1,5 @@
--- A file whose new code has the instructions of some items, with a mark for each block: it fits the input, reads as the items, and its table
--- leads to the marks.
+-- A file whose new code has the instructions of some items, with a mark for each block: it fits the input, reads as the
+-- items, and its table leads to the marks.
 use Rattle.std.proofs.Common.{◌≡◌, ℕ, ◌+◌, ◌%◌, ◌^◌, ◌≤◌, ⊎_elim, Bool, true, false, cond, List, [], ◌∷◌, refl, arith, inr, ◌-◌, ◌*◌, ◌<◌, ◌++◌, length, map, Option, Some, None, sym, ap, ◌∙◌, subst}
 use Rattle.std.proofs.lemmas.Bool.{false≢true, and_parts, or_cases, leb-true, eqb-true}
 use Rattle.std.specs.Prelude.{◌==◌, ◌&&◌, nat_le, All, slice_index, unwrap_or, IfSome}

@@ -1,4 +1,4 @@
--- The forms of the code are a weave: they meet the laws of the rows and of the entry, so the promises follow from those of any weave.
+-- The forms of the code are a weave: by the laws of rows and entry the promises follow from those of any weave.
 use Rattle.std.proofs.Common.{◌≡◌, ℕ, zero, suc, ◌+◌, ◌*◌, ◌%◌, ◌^◌, ◌<◌, ◌≤◌, inl, inr, ⊎_elim, Bool, true, false, cond, List, [], ◌∷◌, ◌++◌, length, take, drop, refl, sym, ap, ◌∙◌, subst, arith, append_assoc, ◌-◌}
 use Rattle.std.specs.Prelude.{pos, slice_set}
 use Rattle.std.proofs.lemmas.Bool.{false≢true, and_parts, and_from, leb-true, ne_eqb, eq-eqb, eqb-true}
@@ -134,7 +134,7 @@ fewer_front (i ∷ is) zero l = let h = one (is_auipc i.kind) in omega (arith, h
   one false = omega arith
 fewer_front (i ∷ is) (suc n) l = let h = fewer_front is n (omega (arith, l)) in omega (arith, h)
 
--- behind the first n instructions of a run the original half has made n steps, in fewer than all original parts have, whatever stands behind them
+-- behind n instructions of a run the original half made n steps, fewer than all original parts have, whatever follows
 pub front_row :
     (w : World) (is : List Ins) (n : ℕ) (u s : State) (tail : List Item) → n < length is → AllFit is → is_run is ≡ true → HasAt w.source s.pc is
     → At w u (each_part original is s.pc ++ tail) s s → Sourced w s → NotTrapped (run s n) → GoesTo w u n (3 * n) (λ k x. Inside w u s n k x × (k < cost_each original_cost is))

@@ -61,7 +61,7 @@ LeavesMirror i at w v = none
 abbrev pub Compares : World → Views → ℕ → Views → Type 0
 Compares w v n z = Does w same same ORIGINALS v n z × ComparesFrom w.code v.now.pc originals
 
--- both halves and the signature stay, so many words were visited, each at its place, and the cursor is at the word behind them
+-- both halves and the signature stay, `round` words were visited at their places, and the cursor is behind them
 pub record Rounds (w : World) (round : ℕ) (spans : List (ℕ × ℕ)) (v : Views) (n : ℕ) (z : Views) : Type 0 where
   pub original : z.original ≡ v.original
   pub shadow : z.shadow ≡ v.shadow
@@ -118,8 +118,8 @@ pub record Checks (w : World) (first round : ℕ) (v : Views) (n : ℕ) (z : Vie
   pub sign : reg z.now SIGNATURE ≡ reg v.now SIGNATURE
   pub checked : Checked w first round v.now n z.now
 
--- behind a piece both halves are those of the input behind its instructions, in no fewer steps, the signature stays, the checks were made, and
--- the original half came to each state of the input between
+-- behind a piece both halves are those of the input behind its instructions, in no fewer steps, the signature stays,
+-- the checks were made, and the original half came to each state of the input between
 pub record Pieced (w : World) (first round : ℕ) (is : List Ins) (s : State) (v : Views) (n : ℕ) (z : Views) : Type 0 where
   pub original : z.original ≡ run s (length is)
   pub shadow : z.shadow ≡ run s (length is)
@@ -128,8 +128,8 @@ pub record Pieced (w : World) (first round : ℕ) (is : List Ins) (s : State) (v
   pub checked : Checked w first round v.now n z.now
   pub trail : Trail w v.now s (length is) n
 
--- from a state of the output that has one state of the input in both halves, before a piece of the input that does not trap, in so
--- many steps an instruction, 13, and those of the visits
+-- from an output state with one input state in both halves, before a piece that does not trap: `part` steps for each
+-- instruction, 13, and those of the visits
 pub record PieceLeads (part round : ℕ) (spans : List (ℕ × ℕ)) (items : List Item) (is : List Ins) (at : ℕ) : Type 0 where
   pub leads :
       (w : World) (v : Views) (rest : List Item) → w.form.spans ≡ spans → IsCursor spans (reg v.now CURSOR) → v.original ≡ v.shadow → v.original.pc ≡ at → HasAt w.source at is
