@@ -20,7 +20,14 @@ use Rattle.lean.specs.Leaves.{Turns}
 
 -- ---- of a weaver
 abbrev pub form : LeanWeaver → Form
-form w = record { spans = spans_of w.visits.span; round = w.visits.round; far = false; sweep = w.sweeps; mirror = mirror_of w.diverse; cost = cost_of w.diverse }
+form w = record {
+  spans = spans_of w.visits.span;
+  round = w.visits.round;
+  far = false;
+  sweep = w.sweeps;
+  mirror = mirror_of w.diverse;
+  cost = cost_of w.diverse;
+}
 
 abbrev pub kind : LeanWeaver → CodeKind
 kind w = record { far = false; table = true; bounds = λ s. lean_bounds_of s w.every }

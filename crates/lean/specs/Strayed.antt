@@ -39,7 +39,8 @@ steps_in s b = sum_of_sizes false (pieces_of s b.body b.start) / 4 + 19
 -- for any start registers: a state of the run, placed inside a block under another signature, is over within `steps_in`
 pub record Strayed (g : Program) (s : Sequences) (entry : ℕ → ℕ) (blocks : List Block) : Type 0 where
   pub stops :
-      (regs : List ℕ) (t q : ℕ) (b : Block) → AreStartRegs regs → (after_output g regs t).outcome ≡ Going → Among b blocks → IsInside s entry b q → (reg (after_output g regs t) SIGNATURE ≡ b.start → ⊥)
+      (regs : List ℕ) (t q : ℕ) (b : Block) → AreStartRegs regs → (after_output g regs t).outcome ≡ Going → Among b blocks → IsInside s entry b q
+      → (reg (after_output g regs t) SIGNATURE ≡ b.start → ⊥)
       → Stopped (steps_in s b) (placed_at q (after_output g regs t))
 
 -- ---- of a file in the lean form

@@ -133,7 +133,8 @@ LeanKept = (f g : Program) (w : World) (l : Lean) (blocks : List Block) → Lean
 
 -- and the output comes to the input's states in their order
 abbrev pub LeanKeptInStep : Type 0
-LeanKeptInStep = (f g : Program) (w : World) (l : Lean) (blocks : List Block) → LeanPlan f g w l blocks → KeptInStep f g w.reached w.distance (start_of w) (piece_of w l)
+LeanKeptInStep = (f g : Program) (w : World) (l : Lean) (blocks : List Block) → LeanPlan f g w l blocks
+    → KeptInStep f g w.reached w.distance (start_of w) (piece_of w l)
 
 pub record IsBoundsOf (w : World) (l : Lean) (bounds : Bounds) : Type 0 where
   pub register : bounds.register ≡ register_bound l.land (swept_steps w) (period l.land (check_steps w) l.every)
@@ -141,7 +142,8 @@ pub record IsBoundsOf (w : World) (l : Lean) (bounds : Bounds) : Type 0 where
 
 -- in a plan changes are caught
 abbrev pub LeanCaught : Type 0
-LeanCaught = (f g : Program) (w : World) (l : Lean) (blocks : List Block) (bounds : Bounds) → LeanPlan f g w l blocks → 1 ≤ w.form.round → IsBoundsOf w l bounds → CaughtInStep f g w.reached w.form.spans bounds (start_of w) (piece_of w l)
+LeanCaught = (f g : Program) (w : World) (l : Lean) (blocks : List Block) (bounds : Bounds) → LeanPlan f g w l blocks → 1 ≤ w.form.round
+    → IsBoundsOf w l bounds → CaughtInStep f g w.reached w.form.spans bounds (start_of w) (piece_of w l)
 
 -- where entries test the signature, jumps land
 abbrev pub LeanLanded : Type 0

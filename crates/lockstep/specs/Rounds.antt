@@ -15,4 +15,5 @@ pub record IsVisited (spans : List (ℕ × ℕ)) (round x a : ℕ) : Type 0 wher
   pub there : words_on spans word (words_on spans (visit * round) x) ≡ a
 
 abbrev pub VisitsReachAll : Type 0
-VisitsReachAll = (base : ℕ) (spans : List (ℕ × ℕ)) (round x a : ℕ) → GoodSpans base spans → 1 ≤ round → IsDataWord spans x → IsDataWord spans a → IsVisited spans round x a
+VisitsReachAll = (base : ℕ) (spans : List (ℕ × ℕ)) (round x a : ℕ) → GoodSpans base spans → 1 ≤ round → IsDataWord spans x
+    → IsDataWord spans a → IsVisited spans round x a

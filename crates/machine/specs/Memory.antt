@@ -101,7 +101,8 @@ poked a v m = rewritten (λ q b. cond (q == a) v b) m
 -- ---- codes, by which a proof tells values apart
 -- permissions as three tests
 abbrev pub flags_code : Coded Flags
-flags_code = code_by (Bool × (Bool × Bool)) (coded× coded_bool (coded× coded_bool coded_bool)) (λ f. (f.read, (f.write, f.execute))) (λ p. record { read = p.0; write = p.1.0; execute = p.1.1 }) (λ _. refl)
+flags_code = code_by (Bool × (Bool × Bool)) (coded× coded_bool (coded× coded_bool coded_bool)) (λ f. (f.read, (f.write, f.execute)))
+    (λ p. record { read = p.0; write = p.1.0; execute = p.1.1 }) (λ _. refl)
 
 -- a cell as its byte and its permissions
 abbrev pub cell_code : Coded Cell

@@ -56,4 +56,5 @@ abbrev pub Mirror : (Class → Type 0) → (Ins → ℕ → List ℕ → List �
 Mirror for registers next =
     (i : Ins) (pc : ℕ) (regs others : List ℕ) → for (class_of i.kind) → IsLow i → AreRegs regs → AreRegs others →
     ((r : ℕ) → ReadsRegister i r → slice_index others (pair r) ≡ slice_index regs r) →
-    (next (renamed i) pc others ≡ next i pc regs) × ((r : ℕ) → writes i ≡ Some r → slice_index (registers (renamed i) pc others) (pair r) ≡ slice_index (registers i pc regs) r)
+    (next (renamed i) pc others ≡ next i pc regs)
+    × ((r : ℕ) → writes i ≡ Some r → slice_index (registers (renamed i) pc others) (pair r) ≡ slice_index (registers i pc regs) r)

@@ -35,4 +35,7 @@ Leads f h k = (m : Memory) → LeadsIn f h m k m
 
 -- the code of a hart, by which a proof tells harts apart
 abbrev pub hart_code : Coded HartState
-hart_code = code_by (List ℕ × (ℕ × (List (ℕ × ℕ) × (Outcome × ℕ)))) (coded× (coded_list coded_ℕ) (coded× coded_ℕ (coded× (coded_list (coded× coded_ℕ coded_ℕ)) (coded× (outcome.the_row).coded coded_ℕ)))) (λ h. (h.regs, (h.pc, (h.ranges, (h.outcome, h.steps))))) (λ p. record { regs = p.0; pc = p.1.0; ranges = p.1.1.0; outcome = p.1.1.1.0; steps = p.1.1.1.1 }) (λ _. refl)
+hart_code = code_by (List ℕ × (ℕ × (List (ℕ × ℕ) × (Outcome × ℕ))))
+    (coded× (coded_list coded_ℕ) (coded× coded_ℕ (coded× (coded_list (coded× coded_ℕ coded_ℕ)) (coded× (outcome.the_row).coded coded_ℕ))))
+    (λ h. (h.regs, (h.pc, (h.ranges, (h.outcome, h.steps)))))
+    (λ p. record { regs = p.0; pc = p.1.0; ranges = p.1.1.0; outcome = p.1.1.1.0; steps = p.1.1.1.1 }) (λ _. refl)

@@ -9,7 +9,8 @@ is_from_to first last c = nat_le first c && nat_le c last
 -- a control character (category Cc), a line or paragraph separator (Zl, Zp), or one of Bidi_Control (PropList.txt)
 unfoldable pub is_hidden : ℕ → Bool
 is_hidden c =
-    is_from_to 0 0x1F c || (is_from_to 0x7F 0x9F c || (c == 0x61C || (is_from_to 0x200E 0x200F c || (is_from_to 0x2028 0x202E c || is_from_to 0x2066 0x2069 c))))
+    is_from_to 0 0x1F c || (is_from_to 0x7F 0x9F c || (c == 0x61C
+    || (is_from_to 0x200E 0x200F c || (is_from_to 0x2028 0x202E c || is_from_to 0x2066 0x2069 c))))
 
 -- each byte as `\x` and two digits
 abbrev pub escaped : List ℕ → List ℕ

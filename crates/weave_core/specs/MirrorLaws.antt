@@ -19,4 +19,5 @@ MirrorsHold = (other : Bool) (w : World) → w.form.mirror ≡ mirror_of other �
 
 -- any plan with those of other kinds keeps the values
 abbrev pub DiverseKept : Type 0
-DiverseKept = (f g : Program) (w : World) (most : ℕ) (blocks : List Block) → PlanOf f g w (weave_of w.form most) blocks → w.form.mirror ≡ diverse → w.form.cost ≡ 8 → KeptInStep f g w.reached w.distance (start_of w.form) (piece_of w.form most)
+DiverseKept = (f g : Program) (w : World) (most : ℕ) (blocks : List Block) → PlanOf f g w (weave_of w.form most) blocks → w.form.mirror ≡ diverse
+    → w.form.cost ≡ 8 → KeptInStep f g w.reached w.distance (start_of w.form) (piece_of w.form most)

@@ -71,7 +71,8 @@ pub record Rounds (w : World) (round : ℕ) (spans : List (ℕ × ℕ)) (v : Vie
   pub visits : (j : ℕ) → j < round → 1 ≤ length spans → Visits w v.now n (words_on spans j (reg v.now CURSOR))
 
 abbrev pub NeedsChecks : List (ℕ × ℕ) → World → Views → Type 0
-NeedsChecks spans w = NeedsBoth (λ v. v.original ≡ v.shadow) (Compares w) (λ v. (v.original ≡ v.shadow) × (w.form.spans ≡ spans) × IsCursor spans (reg v.now CURSOR))
+NeedsChecks spans w = NeedsBoth (λ v. v.original ≡ v.shadow) (Compares w)
+    (λ v. (v.original ≡ v.shadow) × (w.form.spans ≡ spans) × IsCursor spans (reg v.now CURSOR))
 
 abbrev pub GivesChecks : ℕ → List (ℕ × ℕ) → World → Views → ℕ → Views → Type 0
 GivesChecks round spans w v = Chain v ORIGINALS (Compares w v) (Rounds w round spans)
@@ -104,7 +105,9 @@ GivesPiece next cost checks is at w v =
 abbrev pub LeavesPiece : (ℕ → ℕ) → (Ins → ℕ) → (World → Views → ℕ → Views → Type 0) → List Ins → ℕ → World → Views → ℕ → Views → Type 0
 LeavesPiece next cost checks is at w v n z =
     LeavesEach next original_cost GivesOriginal LeavesOriginal is at w v n z
-    ⊎ Chain v (cost_each original_cost is) (GivesEach next original_cost GivesOriginal is at w v) (λ y m x. LeavesEach next cost GivesMirror LeavesMirror is at w y m x ⊎ Chain y (cost_each cost is) (GivesEach next cost GivesMirror is at w y) (checks w) m x) n z
+    ⊎ Chain v (cost_each original_cost is) (GivesEach next original_cost GivesOriginal is at w v)
+    (λ y m x. LeavesEach next cost GivesMirror LeavesMirror is at w y m x
+      ⊎ Chain y (cost_each cost is) (GivesEach next cost GivesMirror is at w y) (checks w) m x) n z
 
 -- the most steps
 abbrev pub piece_cost : (Ins → ℕ) → ℕ → List Ins → ℕ
@@ -132,6 +135,8 @@ pub record Pieced (w : World) (first round : ℕ) (is : List Ins) (s : State) (v
 -- instruction, 13, and those of the visits
 pub record PieceLeads (part round : ℕ) (spans : List (ℕ × ℕ)) (items : List Item) (is : List Ins) (at : ℕ) : Type 0 where
   pub leads :
-      (w : World) (v : Views) (rest : List Item) → w.form.spans ≡ spans → IsCursor spans (reg v.now CURSOR) → v.original ≡ v.shadow → v.original.pc ≡ at → HasAt w.source at is
+      (w : World) (v : Views) (rest : List Item) → w.form.spans ≡ spans → IsCursor spans (reg v.now CURSOR) → v.original ≡ v.shadow
+      → v.original.pc ≡ at → HasAt w.source at is
       → AllFit is → is_run is ≡ true → Sourced w v.original → NotTrapped (run v.original (length is)) → Stands w v (items ++ rest)
-      → Leads w v (part * length is + (ORIGINALS + visit_bound (word_count spans) (length spans) * round)) rest (Pieced w (part * length is) round is v.original v) none
+      → Leads w v (part * length is + (ORIGINALS + visit_bound (word_count spans) (length spans) * round)) rest
+      (Pieced w (part * length is) round is v.original v) none

@@ -60,8 +60,10 @@ pub record Leads (w : World) (v : Views) (most : ℕ) (rest : List Item) (gives 
   pub ends : (Stands w to rest × gives steps to) ⊎ leaves steps to
 
 -- in each world that suits, from where the items stand and what is needed holds
-pub record Quiet (suits : Bool → Type 0) (items : List Item) (needs : World → Views → Type 0) (gives leaves : World → Views → ℕ → Views → Type 0) (most : ℕ) : Type 0 where
-  pub leads : (w : World) (v : Views) (rest : List Item) → suits w.form.far → Stands w v (items ++ rest) → needs w v → Leads w v most rest (gives w v) (leaves w v)
+pub record Quiet (suits : Bool → Type 0) (items : List Item) (needs : World → Views → Type 0)
+    (gives leaves : World → Views → ℕ → Views → Type 0) (most : ℕ) : Type 0 where
+  pub leads : (w : World) (v : Views) (rest : List Item) → suits w.form.far → Stands w v (items ++ rest) → needs w v
+      → Leads w v most rest (gives w v) (leaves w v)
 
 -- ---- Lockstep
 -- behind comparisons of some registers with their pairs the words are of the woven kinds, with a guard just before each

@@ -35,9 +35,11 @@ weave_with form most checks first steps = record {
 
 -- those of a form are the comparison of all registers and the visits
 abbrev pub weave_of : Form → ℕ → Weave
-weave_of form most = weave_with form most (compare ++ visit form.round form.spans) 0 (ORIGINALS + visit_bound (word_count form.spans) (length form.spans) * form.round)
+weave_of form most = weave_with form most (compare ++ visit form.round form.spans) 0
+    (ORIGINALS + visit_bound (word_count form.spans) (length form.spans) * form.round)
 
 -- what is asked of others: the laws of a pass that, where both halves are equal, makes the checks of a round
 pub record ChecksLaws (form : Form) (checks : List Item) (first steps : ℕ) : Type 0 where
-  pub quiet : Quiet any checks (λ w v. (v.original ≡ v.shadow) × (w.form ≡ form) × IsCursor w.form.spans (reg v.now CURSOR)) (λ w. Checks w first form.round) (λ w v n z. ⊥) steps
+  pub quiet : Quiet any checks (λ w v. (v.original ≡ v.shadow) × (w.form ≡ form) × IsCursor w.form.spans (reg v.now CURSOR))
+      (λ w. Checks w first form.round) (λ w v n z. ⊥) steps
   pub lockstep : Lockstep any [] checks

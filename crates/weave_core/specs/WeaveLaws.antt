@@ -142,16 +142,21 @@ pub record Rows (w : World) (v : Weave) (leader : ℕ → Bool) : Type 0 where
   -- an entry that reads as the words of a block is an address on the grain
   pub known : (a : ℕ) → EntryAt w v leader a → IsEntryOf w a
   pub enter :
-      (u s : State) (rest : List Item) → Stands w leader u s → v.held w u s.pc ≡ true → s.pc < 2 ^ 64 → Reads w.form.far w.code w.entry u.pc (v.code.enter s.pc ++ rest)
+      (u s : State) (rest : List Item) → Stands w leader u s → v.held w u s.pc ≡ true → s.pc < 2 ^ 64
+      → Reads w.form.far w.code w.entry u.pc (v.code.enter s.pc ++ rest)
       → GoesTo w u 0 v.enter_steps (λ n x. At w x rest s s × (v.held w x s.pc ≡ true))
   pub inside :
       (is : List Ins) (n : ℕ) (u s : State) (rest : List Item) → n < length is → PieceAt w v s.pc is → At w u (v.code.piece is s.pc ++ rest) s s
       → Sourced w s → NotTrapped (run s n) → GoesTo w u n v.piece_steps (λ k x. Inside w u s n k x × (k < v.piece_steps))
   pub piece :
-      (is : List Ins) (b : ℕ) (u s : State) (rest : List Item) → v.held w u b ≡ true → PieceAt w v s.pc is → At w u (v.code.piece is s.pc ++ rest) s s → Sourced w s
-      → NotTrapped (run s (length is)) → GoesTo w u (length is) v.piece_steps (λ n x. At w x rest (run s (length is)) (run s (length is)) × (v.held w x b ≡ true) × Trail w u s (length is) n)
+      (is : List Ins) (b : ℕ) (u s : State) (rest : List Item) → v.held w u b ≡ true → PieceAt w v s.pc is
+      → At w u (v.code.piece is s.pc ++ rest) s s → Sourced w s
+      → NotTrapped (run s (length is))
+      → GoesTo w u (length is) v.piece_steps
+      (λ n x. At w x rest (run s (length is)) (run s (length is)) × (v.held w x b ≡ true) × Trail w u s (length is) n)
   pub leave :
-      ((a : ℕ) → leader a ≡ true → IsEntryOf w a) → (e : End) (b : ℕ) (u s : State) → v.held w u b ≡ true → v.ends_at e b s.pc ≡ true → At w u (v.code.leave e s.pc) s s
+      ((a : ℕ) → leader a ≡ true → IsEntryOf w a) → (e : End) (b : ℕ) (u s : State) → v.held w u b ≡ true
+      → v.ends_at e b s.pc ≡ true → At w u (v.code.leave e s.pc) s s
       → Sourced w s → EndStands w leader e s.pc → IsSteady w.reached s (stops e) → Left w v leader u (run s (stops e)) (stops e)
 
 -- ---- the laws of the checks: what is seen on the way there

@@ -13,4 +13,5 @@ pub record Clean (f g : Program) (reached : ℕ → Bool) (spans : List (ℕ × 
   pub settles : (regs : List ℕ) (cs : List Change) (e : ℕ) →
       AreStartRegs regs → Ordered cs → AllOpen spans (after_output g regs) cs → last_step cs + last ≤ e →
       (after_output g regs e).outcome ≡ Ended → ((k : ℕ) → k < e → (after_output g regs k).outcome ≢ Ended) → Steady f reached e →
-      ((changed_run (start g regs) cs e).outcome ≡ Fired) ⊎ (((changed_run (start g regs) cs e).outcome ≡ Ended) × Same spans (changed_run (start g regs) cs e) (after_output g regs e))
+      ((changed_run (start g regs) cs e).outcome ≡ Fired)
+      ⊎ (((changed_run (start g regs) cs e).outcome ≡ Ended) × Same spans (changed_run (start g regs) cs e) (after_output g regs e))

@@ -45,9 +45,12 @@ pub data StoresAny (i : Ins) (u v : State) : Type 0 where
 -- wherever the output's run without faults goes on at such an instruction, while the input is steady for its steps
 pub record FaultsFound (f g : Program) (reached : ℕ → Bool) (spans : List (ℕ × ℕ)) (bounds : Bounds) (first bound : ℕ) : Type 0 where
   pub results :
-      (regs : List ℕ) (n : ℕ) (i : Ins) (v : State) → AreStartRegs regs → (after_output g regs n).outcome ≡ Going → next (after_output g regs n) ≡ Known i → WritesOriginal i
-      → GivesAny i (after_output g regs n) v → Covers f g reached first bound regs (n + 1 + bounds.register) → SettlesWithin spans 0 bounds.register (run v) (λ k. after_output g regs (n + 1 + k))
+      (regs : List ℕ) (n : ℕ) (i : Ins) (v : State) → AreStartRegs regs → (after_output g regs n).outcome ≡ Going
+      → next (after_output g regs n) ≡ Known i → WritesOriginal i
+      → GivesAny i (after_output g regs n) v → Covers f g reached first bound regs (n + 1 + bounds.register)
+      → SettlesWithin spans 0 bounds.register (run v) (λ k. after_output g regs (n + 1 + k))
   pub stores :
       (regs : List ℕ) (n b : ℕ) (i : Ins) (v : State) → AreStartRegs regs → (after_output g regs n).outcome ≡ Going → next (after_output g regs n) ≡ Known i
-      → StoresOriginal spans i (after_output g regs n) → StoresAny i (after_output g regs n) v → bounds.word ≡ Some b → Covers f g reached first bound regs (n + 1 + b)
+      → StoresOriginal spans i (after_output g regs n) → StoresAny i (after_output g regs n) v → bounds.word ≡ Some b
+      → Covers f g reached first bound regs (n + 1 + b)
       → SettlesWithin spans 0 b (run v) (λ k. after_output g regs (n + 1 + k))

@@ -27,7 +27,8 @@ pub record SameBeside (spans : List (ℕ × ℕ)) (u v : State) : Type 0 where
 -- ended, so does the run without them at step m, and only x1 to x13 and the data of the original half may be wrong
 pub data IsSettled (spans : List (ℕ × ℕ)) (t m : ℕ) (changed unchanged : ℕ → State) : Type 0 where
   fires : (changed m).outcome ≡ Fired → IsSettled spans t m changed unchanged
-  ends : (changed m).outcome ≡ Ended → ((k : ℕ) → k ≤ m → (changed k).outcome ≡ (unchanged k).outcome) → SameBeside spans (changed m) (unchanged m) → IsSettled spans t m changed unchanged
+  ends : (changed m).outcome ≡ Ended → ((k : ℕ) → k ≤ m → (changed k).outcome ≡ (unchanged k).outcome)
+      → SameBeside spans (changed m) (unchanged m) → IsSettled spans t m changed unchanged
   gone : t ≤ m → Same spans (changed m) (unchanged m) → IsSettled spans t m changed unchanged
 
 -- it is within b steps behind the last change
@@ -48,7 +49,8 @@ pub record CaughtInStep (f g : Program) (reached : ℕ → Bool) (spans : List (
 -- steps. The input is steady for the steps that are made of it, or for t of its own
 pub record LandedInStep (most : ℕ) (f g : Program) (reached : ℕ → Bool) (entries : List EntryRow) (first bound : ℕ) : Type 0 where
   pub fires :
-      (regs : List ℕ) (t a c here there : ℕ) → AreStartRegs regs → (Covers f g reached first bound regs (t + 1)) ⊎ Steady f reached t → IsEntry entries a here → IsEntry entries c there → a ≢ c
+      (regs : List ℕ) (t a c here there : ℕ) → AreStartRegs regs → (Covers f g reached first bound regs (t + 1)) ⊎ Steady f reached t
+      → IsEntry entries a here → IsEntry entries c there → a ≢ c
       → (after_output g regs t).outcome ≡ Going → (after_output g regs t).pc ≡ here → Fires most (placed_at there (after_output g regs t))
 
 -- if the output first ends after e steps, and the changes leave `last` steps, the changed run has fired after e steps,
@@ -57,11 +59,15 @@ pub record CleanInStep (f g : Program) (reached : ℕ → Bool) (spans : List (�
   pub settles : (regs : List ℕ) (cs : List Change) (e : ℕ) →
       AreStartRegs regs → Ordered cs → AllOpen spans (after_output g regs) cs → last_step cs + last ≤ e →
       (after_output g regs e).outcome ≡ Ended → ((k : ℕ) → k < e → (after_output g regs k).outcome ≢ Ended) → Covers f g reached first bound regs e →
-      ((changed_run (start g regs) cs e).outcome ≡ Fired) ⊎ (((changed_run (start g regs) cs e).outcome ≡ Ended) × Same spans (changed_run (start g regs) cs e) (after_output g regs e))
+      ((changed_run (start g regs) cs e).outcome ≡ Fired)
+      ⊎ (((changed_run (start g regs) cs e).outcome ≡ Ended) × Same spans (changed_run (start g regs) cs e) (after_output g regs e))
 
 -- ---- the law: what counts the output's steps follows
 pub record PromisesFollow : Type 0 where
   pub kept : (f g : Program) (reached : ℕ → Bool) (distance first bound : ℕ) → KeptInStep f g reached distance first bound → Kept f g reached first bound
-  pub caught : (f g : Program) (reached : ℕ → Bool) (spans : List (ℕ × ℕ)) (bounds : Bounds) (first bound : ℕ) → CaughtInStep f g reached spans bounds first bound → Caught f g reached spans bounds
-  pub landed : (most : ℕ) (f g : Program) (reached : ℕ → Bool) (entries : List EntryRow) (first bound : ℕ) → LandedInStep most f g reached entries first bound → Landed most f g reached entries
-  pub clean : (f g : Program) (reached : ℕ → Bool) (spans : List (ℕ × ℕ)) (last first bound : ℕ) → CleanInStep f g reached spans last first bound → Clean f g reached spans last
+  pub caught : (f g : Program) (reached : ℕ → Bool) (spans : List (ℕ × ℕ)) (bounds : Bounds) (first bound : ℕ)
+      → CaughtInStep f g reached spans bounds first bound → Caught f g reached spans bounds
+  pub landed : (most : ℕ) (f g : Program) (reached : ℕ → Bool) (entries : List EntryRow) (first bound : ℕ)
+      → LandedInStep most f g reached entries first bound → Landed most f g reached entries
+  pub clean : (f g : Program) (reached : ℕ → Bool) (spans : List (ℕ × ℕ)) (last first bound : ℕ)
+      → CleanInStep f g reached spans last first bound → Clean f g reached spans last

@@ -20,7 +20,8 @@ named land a = cond land [] (Constant TEMPORARY a ∷ [])
 -- block in x30; behind the jump stands an EBREAK, to which nothing goes
 abbrev pub tick : Bool → ℕ → ℕ → ℤ → List Item
 tick land a most d =
-    Plain (ins Addi CURSOR CURSOR 0 (pos most)) ∷ Plain (ins Slli SPARE CURSOR 0 (pos 52)) ∷ Plain (ins Bge 0 SPARE 0 (pos (cond land 12 20))) ∷ (named land a ++ (Plain (ins Jal 0 0 0 d) ∷ fired_check ∷ []))
+    Plain (ins Addi CURSOR CURSOR 0 (pos most)) ∷ Plain (ins Slli SPARE CURSOR 0 (pos 52)) ∷ Plain (ins Bge 0 SPARE 0 (pos (cond land 12 20)))
+    ∷ (named land a ++ (Plain (ins Jal 0 0 0 d) ∷ fired_check ∷ []))
 
 -- ---- the signature
 -- a distance that one immediate has, from -2048 to 2047
@@ -29,7 +30,9 @@ is_short d = nat_lt ((wrapped d + 2048) % 2 ^ 64) 4096
 
 -- adds a distance to the signature
 abbrev pub turn_by : ℤ → List Item
-turn_by d = cond (is_short d) (Plain (ins Addi SIGNATURE SIGNATURE 0 d) ∷ []) (Plain (ins Lui TEMPORARY 0 0 (upper_part d)) ∷ Plain (ins Addi TEMPORARY TEMPORARY 0 (lower_part d)) ∷ Plain (ins Add SIGNATURE SIGNATURE TEMPORARY (pos 0)) ∷ [])
+turn_by d = cond (is_short d) (Plain (ins Addi SIGNATURE SIGNATURE 0 d) ∷ [])
+    (Plain (ins Lui TEMPORARY 0 0 (upper_part d)) ∷ Plain (ins Addi TEMPORARY TEMPORARY 0 (lower_part d))
+    ∷ Plain (ins Add SIGNATURE SIGNATURE TEMPORARY (pos 0)) ∷ [])
 
 -- turns the signature from one input address to another
 abbrev pub turn : ℕ → ℕ → List Item
@@ -52,12 +55,14 @@ check_distance d = Plain (ins Lui TEMPORARY 0 0 (pos d)) ∷ Plain (ins Beq 0 DI
 -- ---- the table
 -- looks the entry of the input address in a register up, by x31, into x30
 abbrev pub look_up : ℕ → List Item
-look_up r = Plain (ins Add SPARE r DISTANCE (pos 0)) ∷ Plain (ins Add SPARE SPARE DISTANCE (pos 0)) ∷ Plain (ins Lw TEMPORARY SPARE 0 (pos 0)) ∷ Plain (ins Add TEMPORARY TEMPORARY SPARE (pos 0)) ∷ []
+look_up r = Plain (ins Add SPARE r DISTANCE (pos 0)) ∷ Plain (ins Add SPARE SPARE DISTANCE (pos 0)) ∷ Plain (ins Lw TEMPORARY SPARE 0 (pos 0))
+    ∷ Plain (ins Add TEMPORARY TEMPORARY SPARE (pos 0)) ∷ []
 
 -- looks up the signature's entry again, by x31 and x14; restores the distance; fires if x30 differs, else goes there
 abbrev pub look_again : ℕ → List Item
 look_again d =
-    Plain (ins Add SPARE DISTANCE DISTANCE (pos 0)) ∷ Plain (ins Add SPARE SPARE SIGNATURE (pos 0)) ∷ Plain (ins Lw DISTANCE SPARE 0 (pos 0)) ∷ Plain (ins Add SPARE SPARE DISTANCE (pos 0)) ∷ Plain (ins Lui DISTANCE 0 0 (pos d)) ∷
+    Plain (ins Add SPARE DISTANCE DISTANCE (pos 0)) ∷ Plain (ins Add SPARE SPARE SIGNATURE (pos 0)) ∷ Plain (ins Lw DISTANCE SPARE 0 (pos 0))
+    ∷ Plain (ins Add SPARE SPARE DISTANCE (pos 0)) ∷ Plain (ins Lui DISTANCE 0 0 (pos d)) ∷
     Plain (ins Beq 0 TEMPORARY SPARE (pos 8)) ∷ fired_check ∷ Plain (ins Jalr 0 TEMPORARY 0 (pos 0)) ∷ []
 
 -- ---- the check
@@ -76,17 +81,20 @@ begun first = Plain (ins Srli CURSOR CURSOR 0 (pos 12)) ∷ Constant TEMPORARY f
 
 -- x15 gets the offset of the next data word again, and the count begins
 abbrev pub done : ℕ → ℕ → List Item
-done first every = Constant TEMPORARY first ∷ Plain (ins Sub CURSOR CURSOR TEMPORARY (pos 0)) ∷ Plain (ins Slli CURSOR CURSOR 0 (pos 12)) ∷ Plain (ins Addi CURSOR CURSOR 0 (pos (2047 - every))) ∷ []
+done first every = Constant TEMPORARY first ∷ Plain (ins Sub CURSOR CURSOR TEMPORARY (pos 0)) ∷ Plain (ins Slli CURSOR CURSOR 0 (pos 12))
+    ∷ Plain (ins Addi CURSOR CURSOR 0 (pos (2047 - every))) ∷ []
 
 -- all of it
 abbrev pub check : ℕ → ℕ → ℕ → ℕ → List (ℕ × ℕ) → List Item
 check base d every round spans =
-    called ++ (check_distance d ++ (compare ++ (begun (first_word base spans) ++ (visit round spans ++ (done (first_word base spans) every ++ (look_up SIGNATURE ++ look_again d))))))
+    called ++ (check_distance d ++ (compare ++ (begun (first_word base spans)
+    ++ (visit round spans ++ (done (first_word base spans) every ++ (look_up SIGNATURE ++ look_again d))))))
 
 -- ---- a store
 -- the guard of its address: the pair's address in the other half, and by it the base
 abbrev pub guard_address : Ins → List Item
-guard_address i = Plain (ins Add TEMPORARY (pair i.rs1) DISTANCE (pos 0)) ∷ Plain (ins Sub SPARE TEMPORARY DISTANCE (pos 0)) ∷ Plain (ins Beq 0 i.rs1 SPARE (pos 8)) ∷ fired_check ∷ []
+guard_address i = Plain (ins Add TEMPORARY (pair i.rs1) DISTANCE (pos 0)) ∷ Plain (ins Sub SPARE TEMPORARY DISTANCE (pos 0))
+    ∷ Plain (ins Beq 0 i.rs1 SPARE (pos 8)) ∷ fired_check ∷ []
 
 -- the guard of its value, where that is another register
 abbrev pub guard_value : Ins → List Item
@@ -125,7 +133,8 @@ take_target i r = Plain (ins Addi TEMPORARY r 0 i.imm) ∷ Plain (ins Andi TEMPO
 
 -- a JALR adds its target by the pair to the signature, and takes the address of its block away
 abbrev pub turn_leap : Ins → ℕ → List Item
-turn_leap i a = take_target i (pair i.rs1) ++ (Plain (ins Add SIGNATURE SIGNATURE TEMPORARY (pos 0)) ∷ Constant TEMPORARY a ∷ Plain (ins Sub SIGNATURE SIGNATURE TEMPORARY (pos 0)) ∷ [])
+turn_leap i a = take_target i (pair i.rs1)
+    ++ (Plain (ins Add SIGNATURE SIGNATURE TEMPORARY (pos 0)) ∷ Constant TEMPORARY a ∷ Plain (ins Sub SIGNATURE SIGNATURE TEMPORARY (pos 0)) ∷ [])
 
 -- the leave of an instruction at `at`, in the block that begins at a. The halves are d apart; `fall` leads to the entry
 -- behind the block; `before` stands before an ECALL, behind comparisons of all registers, distance and signature. Each
@@ -134,7 +143,9 @@ abbrev pub leave_as : ℕ → List Item → (ℕ → List Item) → Class → In
 leave_as d before fall class.End i a at = compare ++ (check_distance d ++ (check_sign a ++ (before ++ (Plain i ∷ []))))
 leave_as d before fall class.Jump i a at = links i at ++ goes a (target i at)
 leave_as d before fall class.Branch i a at =
-    Plain (ins (opposite i.kind) 0 i.rs1 i.rs2 (pos (4 + sum_of_sizes false (taken i a (target i at))))) ∷ (taken i a (target i at) ++ (check_way (opposite i.kind) i ++ (turn a ((at + 4) % 2 ^ 64) ++ fall ((at + 4) % 2 ^ 64))))
+    Plain (ins (opposite i.kind) 0 i.rs1 i.rs2 (pos (4 + sum_of_sizes false (taken i a (target i at)))))
+    ∷ (taken i a (target i at) ++ (check_way (opposite i.kind) i
+    ++ (turn a ((at + 4) % 2 ^ 64) ++ fall ((at + 4) % 2 ^ 64))))
 leave_as d before fall class.JumpReg i a at =
     turn_leap i a ++ (check_distance d ++ (guard i.rs1 ++ (take_target i i.rs1 ++ (called ++ (links i at ++ (look_up TEMPORARY ++ look_again d))))))
 leave_as d before fall _ i a at = Plain i ∷ []
@@ -148,7 +159,8 @@ leave d before fall (Stops i) a at = leave_as d before fall (class_of i.kind) i 
 -- originals and pairs are 0, and x14 is the distance of the halves. The test begins at its entry, with the first data
 -- word and a count of 2047, so that its first tick goes to the check
 abbrev pub begin : ℕ → ℕ → List Item
-begin d a = zero_from 1 ORIGINALS ++ (zero_from 17 ORIGINALS ++ (Plain (ins Lui DISTANCE 0 0 (pos d)) ∷ Constant SIGNATURE a ∷ Plain (ins Addi CURSOR 0 0 (pos 2047)) ∷ Go a ∷ []))
+begin d a = zero_from 1 ORIGINALS ++ (zero_from 17 ORIGINALS
+    ++ (Plain (ins Lui DISTANCE 0 0 (pos d)) ∷ Constant SIGNATURE a ∷ Plain (ins Addi CURSOR 0 0 (pos 2047)) ∷ Go a ∷ []))
 
 -- ---- the steps
 -- of straight words, where no check fires

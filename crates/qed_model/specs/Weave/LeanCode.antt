@@ -47,7 +47,8 @@ both_parts diverse is at = each_part original is at ++ each_part (mirror_of dive
 abbrev pub parts_with : Bool → List Ins → ℕ → List Ins → List Item
 parts_with diverse run at [] = both_parts diverse run at
 parts_with diverse run at (i ∷ is) =
-    cond (is_store (class_of i.kind)) (both_parts diverse run at ++ (store_part i ++ parts_with diverse [] (at + 4 * length run + 4) is)) (parts_with diverse (run ++ (i ∷ [])) at is)
+    cond (is_store (class_of i.kind)) (both_parts diverse run at ++ (store_part i ++ parts_with diverse [] (at + 4 * length run + 4) is))
+    (parts_with diverse (run ++ (i ∷ [])) at is)
 
 -- a piece
 abbrev pub piece : Bool → List Ins → ℕ → List Item
@@ -204,7 +205,8 @@ lean_in o every blocks distance check entry = record {
 
 -- of a file with its blocks
 abbrev pub lean_of : ElfFile → Options → ℕ → List Block → Lean
-lean_of f o every blocks = lean_in o every blocks (half_of o.half (image_of f)) (code_place o.half (image_of f) + sum_of_sizes false (begin (half_of o.half (image_of f)) f.entry)) f.entry
+lean_of f o every blocks = lean_in o every blocks (half_of o.half (image_of f))
+    (code_place o.half (image_of f) + sum_of_sizes false (begin (half_of o.half (image_of f)) f.entry)) f.entry
 
 -- ---- the new code
 -- its items, where an input address has its entry

@@ -97,7 +97,13 @@ file_segments d image code_at table rows code = halves d image ++ ((if table the
 
 -- over the table, with SHF_ALLOC
 abbrev pub table_section : ℕ → List EntryRow → OutSection
-table_section d rows = record { name = codes ".qed.table"; flags = SHF_ALLOC; address = first_input rows + 2 * d; size = length (table_bytes d rows); bytes = [] }
+table_section d rows = record {
+  name = codes ".qed.table";
+  flags = SHF_ALLOC;
+  address = first_input rows + 2 * d;
+  size = length (table_bytes d rows);
+  bytes = [];
+}
 
 abbrev pub file_sections : ℕ → ℕ → Bool → List EntryRow → List ℕ → List OutSection
 file_sections d code_at table rows code = text_section code_at code ∷ ((if table then table_section d rows ∷ [] else []) ++ map_section rows ∷ [])

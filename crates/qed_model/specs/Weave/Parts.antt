@@ -71,7 +71,8 @@ abbrev pub parts : Form → Parts
 parts form = record {
   first = λ d a. (role.Start, prologue d form.spans a) ∷ [];
   enter = λ a. (role.Entry a, Mark a ∷ check_sign a) ∷ [];
-  piece = λ is at. each_parts role.Original original is at ++ (each_parts role.Mirror form.mirror is at ++ ((role.Visit at (last_of is at), compare ++ visit form.round form.spans) ∷ []));
+  piece = λ is at. each_parts role.Original original is at
+      ++ (each_parts role.Mirror form.mirror is at ++ ((role.Visit at (last_of is at), compare ++ visit form.round form.spans) ∷ []));
   leave = leave_parts form;
 }
 

@@ -22,7 +22,8 @@ Reads far c entry a [] = Unit {0}
 Reads far c entry a (Mark m ∷ is) = (entry m ≡ a) × Reads far c entry a is
 Reads far c entry a (Plain i ∷ is) = (c a ≡ Known i) × Reads far c entry (a + 4) is
 Reads far c entry a (Constant r v ∷ is) =
-    (c a ≡ Known (ins Auipc r 0 0 (upper_part (distance_between a v)))) × (c (a + 4) ≡ Known (ins Addi r r 0 (lower_part (distance_between a v)))) × Reads far c entry (a + 8) is
+    (c a ≡ Known (ins Auipc r 0 0 (upper_part (distance_between a v))))
+    × (c (a + 4) ≡ Known (ins Addi r r 0 (lower_part (distance_between a v)))) × Reads far c entry (a + 8) is
 Reads far c entry a (Go t ∷ is) = HasAt c a (go_words far a (entry t)) × Reads far c entry (a + go_size far) is
 
 -- what the new code depends on besides the blocks
@@ -81,7 +82,8 @@ wraps (r ∷ n ∷ rs) first = Constant TEMPORARY r.1 ∷ Plain (ins Bne 0 CURSO
 abbrev pub visit_word : List (ℕ × ℕ) → List Item
 visit_word [] = []
 visit_word (r ∷ rs) =
-    Plain (ins Ld TEMPORARY CURSOR 0 (pos 0)) ∷ Plain (ins Add SPARE CURSOR DISTANCE (pos 0)) ∷ Plain (ins Ld SPARE SPARE 0 (pos 0)) ∷ Plain (ins Beq 0 TEMPORARY SPARE (pos 8)) ∷ fired_check ∷
+    Plain (ins Ld TEMPORARY CURSOR 0 (pos 0)) ∷ Plain (ins Add SPARE CURSOR DISTANCE (pos 0)) ∷ Plain (ins Ld SPARE SPARE 0 (pos 0))
+    ∷ Plain (ins Beq 0 TEMPORARY SPARE (pos 8)) ∷ fired_check ∷
     Plain (ins Addi CURSOR CURSOR 0 (pos 8)) ∷ wraps (r ∷ rs) r.0
 
 -- the items several times
@@ -96,7 +98,8 @@ visit round spans = times round (visit_word spans)
 -- each word of a range in turn: fires where it and its duplicate differ
 abbrev pub sweep_range : ℕ × ℕ → List Item
 sweep_range r =
-    Constant CURSOR r.0 ∷ Plain (ins Ld TEMPORARY CURSOR 0 (pos 0)) ∷ Plain (ins Add SPARE CURSOR DISTANCE (pos 0)) ∷ Plain (ins Ld SPARE SPARE 0 (pos 0)) ∷ Plain (ins Beq 0 TEMPORARY SPARE (pos 8)) ∷ fired_check ∷
+    Constant CURSOR r.0 ∷ Plain (ins Ld TEMPORARY CURSOR 0 (pos 0)) ∷ Plain (ins Add SPARE CURSOR DISTANCE (pos 0))
+    ∷ Plain (ins Ld SPARE SPARE 0 (pos 0)) ∷ Plain (ins Beq 0 TEMPORARY SPARE (pos 8)) ∷ fired_check ∷
     Plain (ins Addi CURSOR CURSOR 0 (pos 8)) ∷ Constant TEMPORARY r.1 ∷ Plain (ins Bne 0 CURSOR TEMPORARY (neg_ℤ (pos 32))) ∷ []
 
 -- each range
@@ -164,12 +167,14 @@ abbrev pub leave_as : Form → Class → Ins → ℕ → List Item
 leave_as form class.End i at = before_end form ++ (Plain i ∷ [])
 leave_as form class.Jump i at = links i at ++ go_on (target i at)
 leave_as form class.Branch i at =
-    Plain (ins i.kind 0 (pair i.rs1) (pair i.rs2) (pos 16)) ∷ Constant SIGNATURE ((at + 4) % 2 ^ 64) ∷ Plain (ins Jal 0 0 0 (pos 12)) ∷ Constant SIGNATURE (target i at) ∷
+    Plain (ins i.kind 0 (pair i.rs1) (pair i.rs2) (pos 16)) ∷ Constant SIGNATURE ((at + 4) % 2 ^ 64)
+    ∷ Plain (ins Jal 0 0 0 (pos 12)) ∷ Constant SIGNATURE (target i at) ∷
     (guards_of i ++ (Plain (ins i.kind 0 i.rs1 i.rs2 (pos (4 + go_size form.far))) ∷ Go ((at + 4) % 2 ^ 64) ∷ Go (target i at) ∷ []))
 leave_as form class.JumpReg i at =
     Plain (ins Addi SIGNATURE (pair i.rs1) 0 i.imm) ∷ Plain (ins Andi SIGNATURE SIGNATURE 0 (neg_ℤ (pos 2))) ∷
     (guard i.rs1 ++ (Plain (ins Addi TEMPORARY i.rs1 0 i.imm) ∷ Plain (ins Andi TEMPORARY TEMPORARY 0 (neg_ℤ (pos 2))) ∷
-    (links i at ++ (Plain (ins Add SPARE TEMPORARY DISTANCE (pos 0)) ∷ Plain (ins Add SPARE SPARE DISTANCE (pos 0)) ∷ Plain (ins Lw TEMPORARY SPARE 0 (pos 0)) ∷ Plain (ins Add TEMPORARY TEMPORARY SPARE (pos 0)) ∷ Plain (ins Jalr 0 TEMPORARY 0 (pos 0)) ∷ []))))
+    (links i at ++ (Plain (ins Add SPARE TEMPORARY DISTANCE (pos 0)) ∷ Plain (ins Add SPARE SPARE DISTANCE (pos 0))
+    ∷ Plain (ins Lw TEMPORARY SPARE 0 (pos 0)) ∷ Plain (ins Add TEMPORARY TEMPORARY SPARE (pos 0)) ∷ Plain (ins Jalr 0 TEMPORARY 0 (pos 0)) ∷ []))))
 leave_as form _ i at = Plain i ∷ []
 
 -- the leave of a block whose end stands at an input address

@@ -70,7 +70,14 @@ compared f o blocks = record {
 
 -- with one check for all of the code, which has no more bytes than a JAL spans, and a table
 abbrev pub lean : ElfFile → Options → ℕ → List Block → NewCode
-lean f o every blocks = record { far = false; items = lean_items f o every blocks; parts = lean_parts f o every blocks; table = true; limit = limit.LeanBytes; bounds = lean_bounds f o every }
+lean f o every blocks = record {
+  far = false;
+  items = lean_items f o every blocks;
+  parts = lean_parts f o every blocks;
+  table = true;
+  limit = limit.LeanBytes;
+  bounds = lean_bounds f o every;
+}
 
 -- the one that is asked for
 abbrev pub code_as : Option ℕ → ElfFile → Options → List Block → NewCode

@@ -68,7 +68,8 @@ data_ranges image = joined (data_parts image)
 
 -- those of a file are the one list of ranges that its parts are joined to
 abbrev pub DataRangesAreJoined : Type 0
-DataRangesAreJoined = (f : ElfFile) (ranges : List (ℕ × ℕ)) → AreJoined (data_parts (image_segments f.segments)) ranges ↔ (ranges ≡ data_ranges (image_segments f.segments))
+DataRangesAreJoined = (f : ElfFile) (ranges : List (ℕ × ℕ))
+    → AreJoined (data_parts (image_segments f.segments)) ranges ↔ (ranges ≡ data_ranges (image_segments f.segments))
 
 -- ---- data words
 -- how many aligned words a range has

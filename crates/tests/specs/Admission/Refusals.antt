@@ -24,7 +24,8 @@ IsLeast test a = IsFirstBelow (2 ^ 64) test a
 abbrev pub IsMisshapen : ElfFile → ℕ → Type 0
 IsMisshapen f i =
     IsFirstOf f.sections (is_misshapen_section (loads_of f)) i
-    ⊎ (((k : ℕ) → k < length f.sections → passes_at (is_misshapen_section (loads_of f)) (slice_get f.sections k) ≡ false) × IsFirstOf f.segments (is_misshapen_segment f) i)
+    ⊎ (((k : ℕ) → k < length f.sections → passes_at (is_misshapen_section (loads_of f)) (slice_get f.sections k) ≡ false)
+    × IsFirstOf f.segments (is_misshapen_segment f) i)
 
 -- the code words, which are too many
 pub record HasTooManyWords (f : ElfFile) (n : ℕ) : Type 0 where

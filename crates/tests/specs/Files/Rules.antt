@@ -64,7 +64,8 @@ encoding_rule file = refuse (error.Encoding (e_encoding file)) (not (e_encoding 
 -- EV_CURRENT, in the identification and in the header
 unfoldable pub version_rule : List ℕ → Check
 version_rule file =
-    if e_ident_version file == EV_CURRENT then refuse (error.Version (e_version file)) (not (e_version file == EV_CURRENT)) else Err (error.Version (e_ident_version file))
+    if e_ident_version file == EV_CURRENT then refuse (error.Version (e_version file)) (not (e_version file == EV_CURRENT))
+    else Err (error.Version (e_ident_version file))
 
 -- ET_EXEC
 unfoldable pub file_type_rule : List ℕ → Check
@@ -182,7 +183,8 @@ unfoldable pub is_section_misshapen : List ℕ → ℕ → Bool
 is_section_misshapen file i =
     (has_alloc (section_header file i).flags && nat_lt (2 ^ 64) ((section_header file i).addr + (section_header file i).size))
     || (not (e_shstrndx file == 0) && i == e_shstrndx file && not (is_string_table (section_header file i).kind))
-    || (not (e_shstrndx file == 0) && is_string_table (names_header file).kind && is_unended (section_bytes file (names_header file)) (section_header file i).name)
+    || (not (e_shstrndx file == 0) && is_string_table (names_header file).kind
+      && is_unended (section_bytes file (names_header file)) (section_header file i).name)
 
 unfoldable pub section_shape_rule : List ℕ → Check
 section_shape_rule file = refuse_found error.SectionShape (first (e_shnum file) (is_section_misshapen file))
@@ -256,7 +258,8 @@ rela_fault file s =
     else None
 
 unfoldable pub rela_shape_rule : List ℕ → Check
-rela_shape_rule file = refuse_found_at error.RelaShape (λ i. rela_fault file (section_header file i)) (first (e_shnum file) (λ i. is_some (rela_fault file (section_header file i))))
+rela_shape_rule file = refuse_found_at error.RelaShape (λ i. rela_fault file (section_header file i))
+    (first (e_shnum file) (λ i. is_some (rela_fault file (section_header file i))))
 
 -- ---- limits of the reader, beside the rules
 
