@@ -19,7 +19,8 @@ pub(crate) const BEGIN_BYTES: u64 = 124;
 /// Sets the halves' distance, the signature of the test's entry and a count that the first tick takes past 2047; jumps.
 fn put_start(distance: u64, entry: u64, out: &mut Emit) -> Result<(), AllocError>
     requires { distance < 2 ^ 63 }
-    ensures { OnOk result (out.new ≡ out.old ++ Plain (ins Lui DISTANCE 0 0 (pos distance)) ∷ Constant SIGNATURE entry ∷ Plain (ins Addi CURSOR 0 0 (pos 2047)) ∷ Go entry ∷ []) }
+    ensures { OnOk result (out.new ≡ out.old ++ Plain (ins Lui DISTANCE 0 0 (pos distance)) ∷ Constant SIGNATURE entry
+        ∷ Plain (ins Addi CURSOR 0 0 (pos 2047)) ∷ Go entry ∷ []) }
 {
     let zero = register(0);
     out.put(&[

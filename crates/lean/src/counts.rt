@@ -156,7 +156,8 @@ fn count(
     requires fits { FitsBlock block.now }
     requires few { block_cost terms.now.diverse terms.now.land (begins (map block_of terms.now.blocks.now)) (block_of block.now) < 2048 }
     requires room { terms.now.room ≤ 48 }
-    ensures { OnOk result ((bs : List Block) → AreCounts (counting terms.now) bs counts.old goals.old → AreCounts (counting terms.now) (block_of block.now ∷ bs) counts.new goals.new) }
+    ensures { OnOk result ((bs : List Block) → AreCounts (counting terms.now) bs counts.old goals.old
+        → AreCounts (counting terms.now) (block_of block.now ∷ bs) counts.new goals.new) }
 {
     let at = block.start + 4 * block.body.as_slice().len() as u64;
     let own = block_steps(terms.diverse, terms.land, terms.blocks, block);
@@ -171,7 +172,8 @@ fn count(
 fn counts_in(alloc: Global, terms: &Terms) -> Result<Counts, AllocError>
     requires ascend { AllPairs (λ b c. b.start < c.start) terms.now.blocks.now }
     requires fit { All FitsBlock terms.now.blocks.now }
-    requires few { All (λ b. block_cost terms.now.diverse terms.now.land (begins (map block_of terms.now.blocks.now)) (block_of b) < 2048) terms.now.blocks.now }
+    requires few { All (λ b. block_cost terms.now.diverse terms.now.land
+        (begins (map block_of terms.now.blocks.now)) (block_of b) < 2048) terms.now.blocks.now }
     requires room { terms.now.room ≤ 48 }
     ensures ticks { IfOk result (λ counts. (a : ℕ) → ticks_in counts a ≡ has_tick (tick_rows (counting terms.now) (map block_of terms.now.blocks.now)) a) }
     ensures most { IfOk result (λ counts. (a : ℕ) → most_in counts a ≡ most_at (tick_rows (counting terms.now) (map block_of terms.now.blocks.now)) a) }
@@ -189,7 +191,8 @@ fn counts_in(alloc: Global, terms: &Terms) -> Result<Counts, AllocError>
 /// How many steps may be left to the tick before: a period less those that a block has at most, but 48 at most.
 fn room(options: &Options, every: u64) -> u64
     requires { every ≤ 2047 }
-    ensures value { result ≡ min (every - (entry_steps_of options.now.land + (LEAN_LEAVE_STEPS + 1) + cost_of options.now.diverse * options.now.inst_max)) MOST_OWED }
+    ensures value { result ≡ min (every - (entry_steps_of options.now.land + (LEAN_LEAVE_STEPS + 1)
+        + cost_of options.now.diverse * options.now.inst_max)) MOST_OWED }
     ensures bound { result ≤ 48 }
 {
     let body = lean_instruction_steps(options.diverse).saturating_mul(options.inst_max);
@@ -211,8 +214,10 @@ pub(crate) fn counts_of(
     blocks: &[CodeBlock],
 ) -> Result<Counts, AllocError>
     requires { (f : ElfFile) × IsLeanCut f options.now every test.now blocks.now }
-    ensures ticks { IfOk result (λ counts. (a : ℕ) → ticks_in counts a ≡ has_tick (tick_rows (counting_of options.now test.now.entry every (map block_of blocks.now)) (map block_of blocks.now)) a) }
-    ensures most { IfOk result (λ counts. (a : ℕ) → most_in counts a ≡ most_at (tick_rows (counting_of options.now test.now.entry every (map block_of blocks.now)) (map block_of blocks.now)) a) }
+    ensures ticks { IfOk result (λ counts. (a : ℕ) → ticks_in counts a
+        ≡ has_tick (tick_rows (counting_of options.now test.now.entry every (map block_of blocks.now)) (map block_of blocks.now)) a) }
+    ensures most { IfOk result (λ counts. (a : ℕ) → most_in counts a
+        ≡ most_at (tick_rows (counting_of options.now test.now.entry every (map block_of blocks.now)) (map block_of blocks.now)) a) }
     ensures bound { IfOk result (λ counts. (a : ℕ) → most_in counts a < 2 ^ 63) }
 {
     let terms = Terms {

@@ -106,7 +106,8 @@ fn weave_through<S: ItemSink>(
     requires rs2 { store.now.rs2 ≤ LAST_ORIGINAL }
     requires low { at + 4 * length run.now < 2 ^ 64 }
     requires come { Comes (S.took to.old.sink) to.old.items (both_parts diverse run.now at ++ store_parts store.now (at + 4 * length run.now)) }
-    ensures { OnOk result (Handed (S.took to.old.sink) (S.took to.new.sink) to.new.items (both_parts diverse run.now at ++ store_parts store.now (at + 4 * length run.now))) }
+    ensures { OnOk result (Handed (S.took to.old.sink) (S.took to.new.sink) to.new.items
+        (both_parts diverse run.now at ++ store_parts store.now (at + 4 * length run.now))) }
 {
     weave_run(diverse, run, at, to)?;
     weave_store(store, at + 4 * run.len() as u64, to)?;

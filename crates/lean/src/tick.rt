@@ -23,7 +23,8 @@ pub(crate) fn call_at(land: bool) -> u64
 /// Counts `steps` steps, and goes past the rest of the tick if the count stays below 2048.
 fn put_count(land: bool, steps: u64, out: &mut Emit) -> Result<(), AllocError>
     requires { steps < 2 ^ 63 }
-    ensures { OnOk result (out.new ≡ out.old ++ Item.Plain (ins Addi CURSOR CURSOR 0 (pos steps)) ∷ Item.Plain (ins Slli SPARE CURSOR 0 (pos 52)) ∷ Item.Plain (ins Bge 0 SPARE 0 (pos (cond land 12 20))) ∷ []) }
+    ensures { OnOk result (out.new ≡ out.old ++ Item.Plain (ins Addi CURSOR CURSOR 0 (pos steps))
+        ∷ Item.Plain (ins Slli SPARE CURSOR 0 (pos 52)) ∷ Item.Plain (ins Bge 0 SPARE 0 (pos (cond land 12 20))) ∷ []) }
 {
     let zero = register(0);
     let (count, sign) = (register(CURSOR), register(SPARE));

@@ -22,7 +22,8 @@ pub fn put_from(
     requires part { from ≤ width }
     requires small { width ≤ 8 }
     ensures sound { AreSound pages.new }
-    ensures put { IfOk result (λ _. (m : Memory) → ((q : ℕ) → 2 ^ 64 ≤ q → get m q ≡ None) → memory_of pages.old ≡ put m address from value → memory_of pages.new ≡ put m address width value) }
+    ensures put { IfOk result (λ _. (m : Memory) → ((q : ℕ) → 2 ^ 64 ≤ q → get m q ≡ None)
+        → memory_of pages.old ≡ put m address from value → memory_of pages.new ≡ put m address width value) }
     ensures kept { IfErr result (λ _. pages.new ≡ pages.old) }
 {
     if from == width {

@@ -43,7 +43,12 @@ impl Model for Held {
 
     ghost Value = { LoadSegment };
 
-    ghost view = { λ h. record { address = h.start; size = h.size; flags = record { read = h.readable; write = h.writable; execute = h.executable }; bytes = take h.size h.page.value.bytes } };
+    ghost view = { λ h. record {
+      address = h.start;
+      size = h.size;
+      flags = record { read = h.readable; write = h.writable; execute = h.executable };
+      bytes = take h.size h.page.value.bytes;
+    } };
 
     ghost invariant = { λ h. IsRoomy h.start h.size h.readable h.reads h.writable h.writes };
 }

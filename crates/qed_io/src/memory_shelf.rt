@@ -149,7 +149,8 @@ impl Shelf for MemoryShelf {
 
         // It fails only if the call was planned to, and leaves what the plan says. Such a call is never Ok, and if the
         // plan keeps nothing it takes no memory.
-        ensures fails { IsErrOf result StoreError.Failed → IsSomeAnd (planned self.old.failing self.old.calls) (λ plan. self.new.files ≡ files_left plan.keep self.old.files name.now bytes.now) }
+        ensures fails { IsErrOf result StoreError.Failed → IsSomeAnd (planned self.old.failing self.old.calls) (λ plan.
+            self.new.files ≡ files_left plan.keep self.old.files name.now bytes.now) }
         ensures planned { IsSome (planned self.old.failing self.old.calls) → IsErr result }
         ensures kept_nothing { IfSome (planned self.old.failing self.old.calls) (λ plan. plan.keep ≡ None → result ≡ Err StoreError.Failed) }
         ensures counted { IsErrOf result StoreError.Failed → self.new.faults ≡ counted self.old.faults }

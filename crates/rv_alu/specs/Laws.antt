@@ -66,14 +66,18 @@ pub computing_frame : Frame IsComputing computed
 computing_frame i pc regs c = set_frame i (computed_value i.kind i pc regs) regs (ap writes_rd c)
 
 pub computing_sources : Sources IsComputing computed following
-computing_sources i pc regs others c d a b s =
-    (refl, set_same (λ r. r) i _ _ regs others (λ r h. h) (omega (arith, d, a.count)) (omega (arith, d, b.count))
-    (written (λ r. r) refl i pc regs others c a b s))
+computing_sources i pc regs others c d a b s = (
+  refl,
+  set_same (λ r. r) i _ _ regs others (λ r h. h) (omega (arith, d, a.count)) (omega (arith, d, b.count))
+      (written (λ r. r) refl i pc regs others c a b s),
+)
 
 pub computing_mirror : Mirror IsComputing computed following
-computing_mirror i pc regs others c p a b s =
-    (refl, set_same pair i _ _ regs others pair-above (omega (arith, p.rd, a.count)) (omega (arith, pair-lt i.rd p.rd, b.count))
-    (written pair refl i pc regs others c a b s))
+computing_mirror i pc regs others c p a b s = (
+  refl,
+  set_same pair i _ _ regs others pair-above (omega (arith, p.rd, a.count)) (omega (arith, pair-lt i.rd p.rd, b.count))
+      (written pair refl i pc regs others c a b s),
+)
 
 -- ---- branches
 -- an instruction of a class that writes no register
@@ -116,14 +120,16 @@ pub jumping_frame : Frame IsJumping linked
 jumping_frame i pc regs c = set_frame i ((pc + 4) % 2 ^ 64) regs (jump_writes _ c)
 
 pub jumping_sources : Sources IsJumping linked landed
-jumping_sources i pc regs others c d a b s =
-    (landed-same (λ r. r) refl i pc regs others a b s,
-    set_same (λ r. r) i _ _ regs others (λ r h. h) (omega (arith, d, a.count)) (omega (arith, d, b.count)) refl)
+jumping_sources i pc regs others c d a b s = (
+  landed-same (λ r. r) refl i pc regs others a b s,
+  set_same (λ r. r) i _ _ regs others (λ r h. h) (omega (arith, d, a.count)) (omega (arith, d, b.count)) refl,
+)
 
 pub jumping_mirror : Mirror IsJumping linked landed
-jumping_mirror i pc regs others c p a b s =
-    (landed-same pair refl i pc regs others a b s,
-    set_same pair i _ _ regs others pair-above (omega (arith, p.rd, a.count)) (omega (arith, pair-lt i.rd p.rd, b.count)) refl)
+jumping_mirror i pc regs others c p a b s = (
+  landed-same pair refl i pc regs others a b s,
+  set_same pair i _ _ regs others pair-above (omega (arith, p.rd, a.count)) (omega (arith, pair-lt i.rd p.rd, b.count)) refl,
+)
 
 -- ---- FENCE
 pub passing_frame : Frame IsPassing same

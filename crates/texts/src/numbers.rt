@@ -7,7 +7,8 @@ ghost use Rattle.texts.specs.Read.{digits as digits_of, number as number_of};
 fn next(base: u32, number: u64, byte: u8) -> Option<u64>
     requires low { 2 ≤ base }
     requires high { base ≤ 16 }
-    ensures { result ≡ (if nat_lt (digit_value byte) base && nat_lt (number * base + digit_value byte) (2 ^ 64) then Some (number * base + digit_value byte) else None) }
+    ensures { result ≡ (if nat_lt (digit_value byte) base && nat_lt (number * base + digit_value byte) (2 ^ 64) then Some (number * base + digit_value byte)
+        else None) }
 {
     let digit = char::from(byte).to_digit(base)?;
     let front = number.checked_mul(u64::from(base))?;

@@ -107,7 +107,7 @@ LeavesPiece next cost checks is at w v n z =
     LeavesEach next original_cost GivesOriginal LeavesOriginal is at w v n z
     ⊎ Chain v (cost_each original_cost is) (GivesEach next original_cost GivesOriginal is at w v)
     (λ y m x. LeavesEach next cost GivesMirror LeavesMirror is at w y m x
-      ⊎ Chain y (cost_each cost is) (GivesEach next cost GivesMirror is at w y) (checks w) m x) n z
+    ⊎ Chain y (cost_each cost is) (GivesEach next cost GivesMirror is at w y) (checks w) m x) n z
 
 -- the most steps
 abbrev pub piece_cost : (Ins → ℕ) → ℕ → List Ins → ℕ

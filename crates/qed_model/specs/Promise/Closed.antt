@@ -80,7 +80,7 @@ abbrev pub closed_at : (ℕ → Fetched) → ℕ → ℕ → Bool
 closed_at code a r =
     (nat_le 1 r && nat_le r LAST_ORIGINAL)
     && ((uses r (code a) && not (is_checked (code a) (code ((a + 4) % 2 ^ 64))))
-      || (guards_other r (code a) && uses r (code ((a + guard_bytes (code a)) % 2 ^ 64))))
+    || (guards_other r (code a) && uses r (code ((a + guard_bytes (code a)) % 2 ^ 64))))
 
 -- a register is closed in a state
 abbrev pub is_closed : State → ℕ → Bool

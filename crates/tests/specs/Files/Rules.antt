@@ -184,7 +184,7 @@ is_section_misshapen file i =
     (has_alloc (section_header file i).flags && nat_lt (2 ^ 64) ((section_header file i).addr + (section_header file i).size))
     || (not (e_shstrndx file == 0) && i == e_shstrndx file && not (is_string_table (section_header file i).kind))
     || (not (e_shstrndx file == 0) && is_string_table (names_header file).kind
-      && is_unended (section_bytes file (names_header file)) (section_header file i).name)
+    && is_unended (section_bytes file (names_header file)) (section_header file i).name)
 
 unfoldable pub section_shape_rule : List ℕ → Check
 section_shape_rule file = refuse_found error.SectionShape (first (e_shnum file) (is_section_misshapen file))
