@@ -42,12 +42,12 @@ pub record IsLeanTest (f : ElfFile) (o : Options) (every : ℕ) (blocks : List B
   pub small : (k : ℕ) → slice_index words k < 2 ^ 32
   pub code : Decode words (placed false (code_place o.half (image_of f)) (lean_items f o every blocks))
 
--- its output, which always has a table
+-- the output of the form, which always has a table
 abbrev pub lean_file : ElfFile → Options → ℕ → List Block → List ℕ → OutFile
 lean_file f o every blocks words = file_of f o.half true (rows_from false (code_place o.half (image_of f)) (lean_items f o every blocks)) (bytes_of words)
 
 -- ---- the laws
--- there are such words, where the items have no more bytes
+-- items of at most `MAX_NEAR_CODE_BYTES` have words
 abbrev pub LeanTestsHaveWords : Type 0
 LeanTestsHaveWords =
     (f : ElfFile) (o : Options) (every : ℕ) (blocks : List Block) → AreLeanBlocks f o every blocks
@@ -78,7 +78,7 @@ LeanTestsCaught =
     → CaughtInStep (loaded_file f) (loaded_file (file_read (lean_file f o every blocks words))) reached (data_ranges (image_of f))
     (lean_bounds f o every) (lean_bounds f o every).start (lean_bounds f o every).piece
 
--- so is a wrong result of an instruction
+-- a wrong result of an instruction is caught
 abbrev pub LeanTestsFaults : Type 0
 LeanTestsFaults =
     (f : ElfFile) (o : Options) (every : ℕ) (blocks : List Block) (words : List ℕ)
@@ -94,13 +94,13 @@ LeanTestsLanded =
     → LandedInStep 4 (loaded_file f) (loaded_file (file_read (lean_file f o every blocks words))) reached
     (rows_from false (code_place o.half (image_of f)) (lean_items f o every blocks)) (lean_bounds f o every).start (lean_bounds f o every).piece
 
--- and where the code of a block runs under the signature of another one, the run is over soon
+-- with `land`, if the code of a block runs under the signature of another one, the run is over soon
 abbrev pub LeanTestsStrayed : Type 0
 LeanTestsStrayed =
     (f : ElfFile) (o : Options) (every : ℕ) (blocks : List Block) (words : List ℕ) → IsLeanTest f o every blocks words → o.land ≡ true
     → Strayed (loaded_file (file_read (lean_file f o every blocks words))) (code_in f o every blocks) (entry_in f o every blocks) blocks
 
--- and with the sweep no change before it is silent at the end
+-- with the sweep no change before it is silent at the end
 abbrev pub LeanTestsClean : Type 0
 LeanTestsClean =
     (f : ElfFile) (o : Options) (every : ℕ) (blocks : List Block) (words : List ℕ)

@@ -131,7 +131,7 @@ piece_of w l = 27 + call_steps l.land + 2 * entry_steps l.land + check_steps w +
 abbrev pub LeanKept : Type 0
 LeanKept = (f g : Program) (w : World) (l : Lean) (blocks : List Block) → LeanPlan f g w l blocks → Kept f g w.reached (start_of w) (piece_of w l)
 
--- and the output comes to the input's states in their order
+-- in a plan the output comes to the input's states in their order
 abbrev pub LeanKeptInStep : Type 0
 LeanKeptInStep = (f g : Program) (w : World) (l : Lean) (blocks : List Block) → LeanPlan f g w l blocks
     → KeptInStep f g w.reached w.distance (start_of w) (piece_of w l)
@@ -151,13 +151,13 @@ LeanLanded =
     (f g : Program) (w : World) (l : Lean) (blocks : List Block) (entries : List EntryRow) → LeanPlan f g w l blocks → l.land ≡ true
     → ((a e : ℕ) → IsEntry entries a e → (begins_at blocks a ≡ true) × (e ≡ w.entry a)) → LandedInStep 4 f g w.reached entries (start_of w) (piece_of w l)
 
--- and where the code of a block runs under the signature of another one, the run is over soon
+-- with `land`, if the code of a block runs under the signature of another one, the run is over soon
 abbrev pub LeanStrayed : Type 0
 LeanStrayed =
     (f g : Program) (w : World) (l : Lean) (blocks : List Block) → LeanPlan f g w l blocks → l.land ≡ true
     → Strayed g (worded w.form w.base w.entry l (begins_at blocks)) w.entry blocks
 
--- and with the sweep no change before it is silent at the end
+-- with the sweep no change before it is silent at the end
 abbrev pub LeanClean : Type 0
 LeanClean =
     (f g : Program) (w : World) (l : Lean) (blocks : List Block) → LeanPlan f g w l blocks → w.form.sweep ≡ true

@@ -40,22 +40,22 @@ pub fn lean_tests_have_words()
     ensures { LeanTestsHaveWords }
 {}
 
-/// Within the limits its file can be written.
+/// Within the limits the file of the lean form can be written.
 pub fn lean_tests_writable()
     ensures { LeanTestsWritable }
 {}
 
-/// Then it comes to the test's states in their order, with their values.
+/// The file comes to the test's states in their order, with their values.
 pub fn lean_tests_kept()
     ensures { LeanTestsKept }
 {}
 
-/// Changes are caught in it.
+/// Changes in the file are caught.
 pub fn lean_tests_caught()
     ensures { LeanTestsCaught }
 {}
 
-/// So is a wrong result of an instruction of the test, as changes behind it.
+/// A wrong result of an instruction of the test is caught, as changes behind it.
 pub fn lean_tests_faults()
     ensures { LeanTestsFaults }
 {}
@@ -65,7 +65,7 @@ pub fn lean_tests_landed()
     ensures { LeanTestsLanded }
 {}
 
-/// And a run that strays into a block under the signature of another one is over soon.
+/// If entries test the signature, a run that strays into a block under the signature of another one is over soon.
 pub fn lean_tests_strayed()
     ensures { LeanTestsStrayed }
 {}

@@ -20,7 +20,7 @@ segments_of specs = map segment_of specs
 abbrev pub any_share : List LoadSegment → List LoadSegment → Bool
 any_share ss ts = list_any (λ s. list_any (share s) ts) ss
 
--- and of two files
+-- a segment of the one file shares a byte with one of the other
 abbrev pub files_share : Program → Program → Bool
 files_share f g = any_share f.segments g.segments
 

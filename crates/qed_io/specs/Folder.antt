@@ -48,7 +48,7 @@ pub record KeepsOld (o n : FolderState) : Type 0 where
   pub old : n.old ≡ o.old
   pub stuck : n.stuck ≡ o.stuck
 
--- and no new one is left, but where it could not be removed
+-- the file of the name is as it was, and no new one is left, unless its removal failed
 pub record Removes (o n : FolderState) : Type 0 where
   pub old : n.old ≡ o.old
   pub removed : (n.beside ≡ None) ⊎ Rose o.stuck n.stuck

@@ -11,7 +11,7 @@ abbrev pub file_in : Result Assembly AsmError → Result (List ℕ) AsmError
 file_in (Ok made) = Ok made.file
 file_in (Err e) = Err e
 
--- this is answered, or Memory in its place
+-- the wanted answer, or Memory in its place
 abbrev pub IsOrMemory : Result (List ℕ) AsmError → Result (List ℕ) AsmError → Type 0
 IsOrMemory wanted answer = (answer ≡ wanted) ⊎ (answer ≡ Err Memory)
 

@@ -32,7 +32,7 @@ pub record Runs (w : World) (i : Ins) (at : ℕ) (s : State) : Type 0 where
   pub here : s.pc ≡ at
   pub calm : NotTrapped (step s)
 
--- none leaves
+-- a pass that never leaves
 abbrev pub none : ℕ → Views → Type 0
 none n z = ⊥
 

@@ -33,7 +33,7 @@ weave_with form most checks first steps = record {
   held = is_signed_at;
 }
 
--- those of a form are the comparison of all registers and the visits
+-- the checks of a form are the comparison of all registers and the visits
 abbrev pub weave_of : Form → ℕ → Weave
 weave_of form most = weave_with form most (compare ++ visit form.round form.spans) 0
     (ORIGINALS + visit_bound (word_count form.spans) (length form.spans) * form.round)

@@ -35,7 +35,7 @@ pub record IsSteady (reached : ℕ → Bool) (s : State) (n : ℕ) : Type 0 wher
   pub no_trap : NotTrapped (run s n)
   pub leads : (k : ℕ) → k < n → LeadsToReached reached (run s k)
 
--- so are the first n of the input
+-- the first n steps of the input are steady
 abbrev pub Steady : Program → (ℕ → Bool) → ℕ → Type 0
 Steady f reached n = IsSteady reached (start f zeros) n
 

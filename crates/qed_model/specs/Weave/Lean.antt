@@ -84,7 +84,7 @@ abbrev pub done : ℕ → ℕ → List Item
 done first every = Constant TEMPORARY first ∷ Plain (ins Sub CURSOR CURSOR TEMPORARY (pos 0)) ∷ Plain (ins Slli CURSOR CURSOR 0 (pos 12))
     ∷ Plain (ins Addi CURSOR CURSOR 0 (pos (2047 - every))) ∷ []
 
--- all of it
+-- the whole check
 abbrev pub check : ℕ → ℕ → ℕ → ℕ → List (ℕ × ℕ) → List Item
 check base d every round spans =
     called ++ (check_distance d ++ (compare ++ (begun (first_word base spans)

@@ -62,6 +62,6 @@ out_symbol rows s = at_entry s (if may_name_code s then entry_at rows s.value el
 abbrev pub symbol_group : Bool → List EntryRow → List Symbol → List Symbol
 symbol_group local rows symbols = map (out_symbol rows) (filter (λ s. is_kept s && (if local then is_local s else not (is_local s))) symbols)
 
--- those that are STB_LOCAL come first
+-- the symbols of the output: those that are STB_LOCAL come first
 abbrev pub out_symbols : List EntryRow → List Symbol → List Symbol
 out_symbols rows symbols = symbol_group true rows symbols ++ symbol_group false rows symbols

@@ -31,7 +31,7 @@ pub record ArePartsOf (s : Sequences) (p : Parts) : Type 0 where
   pub piece : (is : List Ins) (at : ℕ) → joined (p.piece is at) ≡ s.piece is at
   pub leave : (e : End) (at : ℕ) → joined (p.leave e at) ≡ s.leave e at
 
--- those of blocks, up to the stub, and all
+-- the parts of pieces, of a block, of blocks, of what is before the stub, and of all code
 abbrev pub pieces_parts : Parts → List (List Ins) → ℕ → List (Role × List Item)
 pieces_parts p [] at = []
 pieces_parts p (is ∷ ps) at = p.piece is at ++ pieces_parts p ps (at + 4 * length is)

@@ -28,7 +28,7 @@ use Rattle.qed_model.specs.Weave.Parts.{joined, parts, code_parts, role_rows}
 use Rattle.qed_model.specs.Weave.LeanParts.{lean_parts}
 
 -- ---- with a comparison behind each piece
--- its items
+-- the items of the form
 abbrev pub items_in : ElfFile → Options → Bool → List Block → List Item
 items_in f o far blocks = code_of (sequences (form_of f o far)) (half_of o.half (image_of f)) f.entry blocks
 

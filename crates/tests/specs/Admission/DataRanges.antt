@@ -66,7 +66,7 @@ joined (r ∷ rs) = join r (joined rs)
 abbrev pub data_ranges : List Segment → List (ℕ × ℕ)
 data_ranges image = joined (data_parts image)
 
--- those of a file are the one list of ranges that its parts are joined to
+-- the data ranges of a file are the one list of ranges that its parts are joined to
 abbrev pub DataRangesAreJoined : Type 0
 DataRangesAreJoined = (f : ElfFile) (ranges : List (ℕ × ℕ))
     → AreJoined (data_parts (image_segments f.segments)) ranges ↔ (ranges ≡ data_ranges (image_segments f.segments))
@@ -76,7 +76,7 @@ DataRangesAreJoined = (f : ElfFile) (ranges : List (ℕ × ℕ))
 abbrev pub words_in : ℕ × ℕ → ℕ
 words_in r = (r.1 - r.0) / 8
 
--- and ranges, W
+-- how many aligned words some ranges have, W
 abbrev pub word_count : List (ℕ × ℕ) → ℕ
 word_count [] = 0
 word_count (r ∷ rs) = words_in r + word_count rs

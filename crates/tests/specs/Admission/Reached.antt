@@ -37,7 +37,7 @@ aligned_words s = words_of (drop ((4 - s.address % 4) % 4) s.bytes)
 abbrev pub offset_of : ℕ → ℕ → ℕ
 offset_of base w = (w + (2 ^ 32 - base % 2 ^ 32)) % 2 ^ 32
 
--- that address, where it may be one of the image
+-- an address is the first from a base on with a word as its low 32 bits, if it may be one of the image
 abbrev pub is_low_half : ℕ → ℕ → ℕ → Bool
 is_low_half base a w = nat_lt (offset_of base w) MAX_IMAGE_SPAN && ((base + offset_of base w) % 2 ^ 64 == a)
 
@@ -78,7 +78,7 @@ is_sum Addiw = true
 is_sum Jalr = true
 is_sum _ = false
 
--- such a word adds its immediate to the register
+-- the instruction adds its immediate to the register
 abbrev pub adds_to : ℕ → Ins → Bool
 adds_to register i = is_sum i.kind && (i.rs1 == register)
 
@@ -97,7 +97,7 @@ users register near = cond (register == 0) [] near
 abbrev pub near_by : Test → List CodeWord → ℕ → List CodeWord
 near_by t near register = cond (register == 3) t.code (users register near)
 
--- or with the immediates of two
+-- a register's value leads to the address with the immediate of a word near by, or also with that of a second one
 abbrev pub sums_lead : Test → List CodeWord → ℕ → ℕ → ℕ → CodeWord → Bool
 sums_lead t near register value a d = adds_to register d.ins && once t (near_by t near d.ins.rd) d.ins.rd (target d.ins value) a
 

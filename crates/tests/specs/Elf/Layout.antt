@@ -175,7 +175,7 @@ own_place f = end_from (start_of f) f.segments
 unfoldable pub symbols_place : OutFile → ℕ
 symbols_place f = aligned (own_place f + length (own_bytes f.sections))
 
--- its string table
+-- the string table of the symbols
 unfoldable pub strings_place : OutFile → ℕ
 strings_place f = symbols_place f + 24 * (1 + length f.symbols)
 
@@ -220,7 +220,7 @@ file_fields entry flags segments headers sections =
     ∷ (2, ET_EXEC) ∷ (2, EM_RISCV) ∷ (4, EV_CURRENT) ∷ (8, entry) ∷ (8, 64) ∷ (8, headers) ∷ (4, flags)
     ∷ (2, EHDR_SIZE) ∷ (2, PHDR_SIZE) ∷ (2, segments) ∷ (2, SHDR_SIZE) ∷ (2, sections + 4) ∷ (2, sections + 3) ∷ []
 
--- its bytes
+-- the bytes of the file header
 abbrev pub file_header : OutFile → List ℕ
 file_header f = fields_bytes (file_fields f.entry f.flags (length f.segments) (headers_place f) (length f.sections))
 
