@@ -42,7 +42,7 @@ pub data StoresAny (i : Ins) (u v : State) : Type 0 where
   leaves : v ≡ moved u.regs (next_pc u) u → StoresAny i u v
 
 -- ---- the promise
--- wherever the output's run without faults goes on at such an instruction, while the input is steady for its steps
+-- wherever the output's run without faults goes on at such an instruction, with the input as steady as `Covers` asks
 pub record FaultsFound (f g : Program) (reached : ℕ → Bool) (spans : List (ℕ × ℕ)) (bounds : Bounds) (first bound : ℕ) : Type 0 where
   pub results :
       (regs : List ℕ) (n : ℕ) (i : Ins) (v : State) → AreStartRegs regs → (after_output g regs n).outcome ≡ Going
