@@ -112,7 +112,7 @@ module _ (f : ElfFile) (o : Options) (every : ℕ) (t : Test) (blocks : List Cod
   same_code : (entry : ℕ → ℕ) → code_with t o every bs entry ≡ file_code entry
   same_code entry = λ i. worded (form_with ((spans_are t.span ∙ c.told.span) i) o false) (c.told.base i) entry (lean_in o every bs (c.told.distance i) (place i + 124) (c.told.entry i)) (begins_at bs)
 
-  -- so are their parts
+  -- the parts are those of the file
   parts_whole : (entry : ℕ → ℕ) → code_parts (parts_with t o every bs entry) t.distance t.entry bs ≡ file_parts f o every bs entry
   parts_whole entry = λ i.
       code_parts (worded_parts (form_with ((spans_are t.span ∙ c.told.span) i) o false) (c.told.base i) entry (lean_in o every bs (c.told.distance i) (place i + 124) (c.told.entry i)) (begins_at bs)) (c.told.distance i) (c.told.entry i) bs
@@ -226,7 +226,7 @@ module _ (f : ElfFile) (o : Options) (every : ℕ) (t : Test) (blocks : List Cod
               let high = inside.high in
               omega (arith, is, high, few, size own, size (λ a. 0), same_size own (λ a. 0), place_small, place)
 
-          -- and its weaver hands on the items, which become the code
+          -- the weaver with the copy of the rows hands on the items, which become the code
           module _ (knows : LeanWeaver) (placed_code : code_of knows ≡ code_at w (leads_to copy last)) where
             abbrev parts : List Item
             parts = code_to_stub (code_of knows) t.distance t.entry bs

@@ -34,7 +34,7 @@ pub record Sizes : Type 0 where
   pub words : ℕ
   pub round : ℕ
 
--- such a visit begins after a number of steps in between
+-- a visit of the word at a begins between two numbers of steps
 pub record VisitIn (c : ℕ → Fetched) (s : State) (from to a : ℕ) : Type 0 where
   pub at : ℕ
   pub late : from ≤ at
@@ -55,7 +55,7 @@ pub record EndsSoon (s : State) (p most : ℕ) : Type 0 where
   pub room : at + 4 ≤ most
   pub ended : (run s (p + at)).outcome ≡ Ended
 
--- and there is one comparison
+-- the steps of a piece: a comparison, and the next boundary or the end
 pub record PieceSteps (c : ℕ → Fetched) (s : State) (z : Sizes) (word : ℕ → ℕ) (horizon : ℕ) (Boundary : ℕ → ℕ → Type 0) (p i : ℕ) : Type 0 where
   pub compare : ℕ
   pub room : compare + 17 ≤ z.check

@@ -74,7 +74,7 @@ spans s a n h =
     let room = leb-true _ _ p.1 in
     (low, omega (arith, low, near, room))
 
--- and each fewer
+-- a segment with some bytes from an address on has each smaller number of them
 pub has_fewer : (s : LoadSegment) (a m n : ℕ) → has_all s a m ≡ true → n ≤ m → has_all s a n ≡ true
 has_fewer s a m n h l = grind (arith, nat_tests)
 

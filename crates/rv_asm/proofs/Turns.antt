@@ -73,7 +73,7 @@ pub record IsBefore (text : List ℕ) (n number : ℕ) (p : Place) : Type 0 wher
   pub code_near : p.code_words < 2 ^ 32
   pub values_near : p.data_words < 2 ^ 32
 
--- and behind it
+-- behind the next line one more is counted
 pub before_next :
     (text : List ℕ) (n m number : ℕ) (line : List ℕ) (p next : Place) (h : Head) → length text ≤ 67108864 → IsTurn (lines_of text) n line → n + 1 ≡ m → IsBefore text n number p
     → h ≡ head_in line → next ≡ next_place p h → IsBefore text m (number + 1) next

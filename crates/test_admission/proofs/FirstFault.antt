@@ -53,7 +53,7 @@ none_case p (Some k) e = absurd (cc)
 pub each_passes : (r : CodeRule) (p : Part) (k : ℕ) → first_in r p ≡ None → k < p.size / 4 → faults_at r p k ≡ false
 each_passes r p k e lt = each_fails (p.size / 4) (faults_at r p) (none_case p (first (p.size / 4) (faults_at r p)) e) k lt
 
--- and where none of parts is, none of the first and none of the others
+-- if no part is at fault, neither is the first, nor any of the others
 pub none_split : (r : CodeRule) (p : Part) (ps : List Part) → first_among r (p ∷ ps) ≡ None → (first_in r p ≡ None) × (first_among r ps ≡ None)
 none_split r p ps e = by (first_in r p) refl e where
   by : (o : Option (ℕ × ℕ)) → first_in r p ≡ o → option_or o (first_among r ps) ≡ None → (first_in r p ≡ None) × (first_among r ps ≡ None)

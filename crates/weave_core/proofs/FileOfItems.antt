@@ -227,7 +227,7 @@ module _ (f : ElfFile) (o : Options) (sound : AreSoundOptions o) (loads : AreLoa
     abbrev new_segment : LoadSegment
     new_segment = load_segment (code_segment at cs)
 
-    -- its size
+    -- the size of the code
     pub length-code : length cs ≡ sum_of_sizes far items
     length-code =
         let l : length words ≡ length (placed far at items) = sym (length-map words decode_of) ∙ ap length of.code ∙ length-map (placed far at items) Some in
@@ -317,7 +317,7 @@ module _ (f : ElfFile) (o : Options) (sound : AreSoundOptions o) (loads : AreLoa
     pub stand : HasAt y at (placed far at items)
     stand = has_decoded y at words (placed far at items) of.code new_fetches
 
-    -- and it reads as the items
+    -- the code reads as the items
     pub reads : Reads far y (entry_of far at items) at items
     reads =
         reads_placed far y at items of.distinct stand

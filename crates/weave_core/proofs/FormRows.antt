@@ -448,13 +448,13 @@ form_guarded w most checks first steps = record {
       ap (λ s. s.outcome) all ∙ step-break y o.going (o.code (v.pc + 8 + 4) ∙ h.2.1.0);
 }
 
--- and its jumps land
+-- in a plan of a form jumps land
 pub plan_landed : PlanLanded
 plan_landed f g w most blocks entries p law known =
     subst (λ n. LandedInStep 4 f g w.reached entries (start_of w.form) n) (omega arith)
     (weave_landed f g w (weave_of w.form most) blocks entries p (form_rows w most (begins_at blocks) law).rows (form_starts w most (begins_at blocks) f g) (form_guarded w most (both w most) 0 (both_steps w most)) known)
 
--- and so they do wherever the entries stand
+-- jumps land wherever the entries stand
 pub landings_fire : LandingsFire
 landings_fire f g w leader most entries x law known =
     subst (λ n. LandedInStep 4 f g w.reached entries (start_of w.form) n) (omega arith)

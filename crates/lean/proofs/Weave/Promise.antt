@@ -213,7 +213,7 @@ module _ (f g : Program) (w : World) (l : Lean) (blocks : List Block) (p : LeanP
     pub catches : CaughtInStep f g w.reached w.form.spans bounds before per
     catches = caught_of f g w before per bounds calm catches_all
 
-    -- so are wrong results, as changes
+    -- wrong results are caught, as changes
     pub finds : FaultsFound f g w.reached w.form.spans bounds before per
     finds = faults_found f g w before per bounds calm (omega (arith, are.register)) (λ b e. wide (word_count w.form.spans) b (sym are.word ∙ e)) catches_all where
       wide : (n b : ℕ) → word_bound l.land n w.form.round (swept_steps w) (period l.land (check_steps w) l.every) ≡ Some b → 2 ≤ b

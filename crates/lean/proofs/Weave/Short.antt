@@ -58,7 +58,7 @@ module _ (f : ElfFile) (o : Options) (every : ℕ) (sound : AreSoundOptions o) (
         } in
         l.inside k (omega (arith, below)) inside leads
 
-  -- and at most these steps
+  -- the most steps of a block
   abbrev pub own_most : ℕ
   own_most = entry_steps o.land + 27 + cost_of o.diverse * o.inst_max
 
