@@ -1,4 +1,4 @@
--- The section headers of a file that was written, as a whole: the tables that are added, and what the rules ask of sections.
+-- The section headers of a written file as a whole: the added tables, and what the rules ask of sections.
 use Rattle.std.proofs.Common.{◌≡◌, ℕ, ◌+◌, ◌*◌, ◌<◌, ◌&&◌, not, Bool, true, false, ltb, eqb, List, [], ◌∷◌, ◌++◌, length, get_or, Some, Ok, refl, sym, ap, subst, ◌∙◌, arith}
 use Rattle.std.specs.Prelude.{All}
 use Rattle.std.specs.Option.{is_some}

@@ -1,4 +1,4 @@
--- The lean form of a test: its items are those of its file, they can be linked where they are few, and what is linked is its code.
+-- The lean form of a test: its items are those of its file; they can be linked if few, and what is linked is its code.
 use Rattle.std.proofs.Common.{◌≡◌, Bool, ℕ, ◌+◌, ◌-◌, ◌^◌, ◌<◌, ◌≤◌, false, List, [], ◌++◌, length, map, refl, sym, ap, ◌∙◌, subst, arith, append_assoc}
 use Rattle.std.specs.Prelude.{All, AllPairs, get_or}
 use Rattle.std.specs.List.{list_all}
@@ -51,7 +51,7 @@ use Rattle.lean.specs.Code.{lean_with, code_with, items_with, parts_with, IsLean
 use Rattle.lean.specs.Form.{code_at, code_of, parts_of, kind, IsOwn}
 use Rattle.lean.proofs.Owned.{owned}
 
--- ---- what a weaver with what was counted of the test makes, is made of the test; the most instructions of a piece are not asked for
+-- ---- what a weaver makes by a test's counts is made of the test; it does not use the most instructions of a piece
 pub woven_is :
     {A : Type 0} (make : Form → ℕ → (ℕ → ℕ) → Lean → (ℕ → Bool) → A) (t : Test) (o : Options) (every : ℕ) (blocks : List Block) (span : List Range) (diverse : Bool) (ticks : ℕ → Bool) (most : ℕ → ℕ)
     → span ≡ t.span → diverse ≡ o.diverse → ((a : ℕ) → ticks a ≡ (lean_with t o every blocks).ticks a) → ((a : ℕ) → most a ≡ (lean_with t o every blocks).most a)
@@ -112,7 +112,7 @@ module _ (f : ElfFile) (o : Options) (every : ℕ) (t : Test) (blocks : List Cod
   same_code : (entry : ℕ → ℕ) → code_with t o every bs entry ≡ file_code entry
   same_code entry = λ i. worded (form_with ((spans_are t.span ∙ c.told.span) i) o false) (c.told.base i) entry (lean_in o every bs (c.told.distance i) (place i + 124) (c.told.entry i)) (begins_at bs)
 
-  -- so are their parts
+  -- the parts are those of the file
   parts_whole : (entry : ℕ → ℕ) → code_parts (parts_with t o every bs entry) t.distance t.entry bs ≡ file_parts f o every bs entry
   parts_whole entry = λ i.
       code_parts (worded_parts (form_with ((spans_are t.span ∙ c.told.span) i) o false) (c.told.base i) entry (lean_in o every bs (c.told.distance i) (place i + 124) (c.told.entry i)) (begins_at bs)) (c.told.distance i) (c.told.entry i) bs
@@ -226,7 +226,7 @@ module _ (f : ElfFile) (o : Options) (every : ℕ) (t : Test) (blocks : List Cod
               let high = inside.high in
               omega (arith, is, high, few, size own, size (λ a. 0), same_size own (λ a. 0), place_small, place)
 
-          -- and its weaver hands on the items, which become the code
+          -- the weaver with the copy of the rows hands on the items, which become the code
           module _ (knows : LeanWeaver) (placed_code : code_of knows ≡ code_at w (leads_to copy last)) where
             abbrev parts : List Item
             parts = code_to_stub (code_of knows) t.distance t.entry bs

@@ -23,7 +23,7 @@ leave_split form d fall (Some i) a at = by (class_of i.kind) where
   by class.End = refl
   by c = refl
 
--- those of a block, whose end stands there
+-- the parts of the leave of a block, whose end stands there
 pub block_split :
     (w : LeanWeaver) (b : CodeBlock) (at : ℕ) → at ≡ b.start + 4 * length b.body → IsOwn w b
     → (parts_of w).leave (end_of b.end) (b.start + 4 * length b.body)

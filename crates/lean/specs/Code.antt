@@ -21,20 +21,20 @@ use Rattle.lean.specs.Tests.{AreLeanBlocks}
 abbrev pub lean_with : Test → Options → ℕ → List Block → Lean
 lean_with t o every blocks = lean_in o every blocks t.distance (code_begin t + 124) t.entry
 
--- its sequences, where an input address has its entry
+-- the sequences of a test, by where an input address has its entry
 abbrev pub code_with : Test → Options → ℕ → List Block → (ℕ → ℕ) → Sequences
 code_with t o every blocks entry = worded (form_with (spans_of t.span) o false) t.base entry (lean_with t o every blocks) (begins_at blocks)
 
--- and their parts
+-- the parts of its sequences
 abbrev pub parts_with : Test → Options → ℕ → List Block → (ℕ → ℕ) → Parts
 parts_with t o every blocks entry = worded_parts (form_with (spans_of t.span) o false) t.base entry (lean_with t o every blocks) (begins_at blocks)
 
--- its items, all but the stub
+-- the items of a test, all but the stub
 abbrev pub items_with : Test → Options → ℕ → List Block → (ℕ → ℕ) → List Item
 items_with t o every blocks entry = code_to_stub (code_with t o every blocks entry) t.distance t.entry blocks
 
 -- ---- of a file
--- the file is an admitted test, of which this is told, and these are its blocks
+-- the file is an admitted test with these facts and these blocks
 pub record IsLeanCut (f : ElfFile) (o : Options) (every : ℕ) (t : Test) (blocks : List CodeBlock) : Type 0 where
   pub told : IsTestOf f o t
   pub cut : AreLeanBlocks f o every (map block_of blocks)

@@ -20,7 +20,14 @@ use Rattle.lean.specs.Leaves.{Turns}
 
 -- ---- of a weaver
 abbrev pub form : LeanWeaver → Form
-form w = record { spans = spans_of w.visits.span; round = w.visits.round; far = false; sweep = w.sweeps; mirror = mirror_of w.diverse; cost = cost_of w.diverse }
+form w = record {
+  spans = spans_of w.visits.span;
+  round = w.visits.round;
+  far = false;
+  sweep = w.sweeps;
+  mirror = mirror_of w.diverse;
+  cost = cost_of w.diverse;
+}
 
 abbrev pub kind : LeanWeaver → CodeKind
 kind w = record { far = false; table = true; bounds = λ s. lean_bounds_of s w.every }
@@ -42,14 +49,14 @@ lean w = record {
   start_of = start_at (blocks_in w);
 }
 
--- its sequences, where an input address has its entry
+-- the sequences of a weaver, by where an input address has its entry
 abbrev pub code_at : LeanWeaver → (ℕ → ℕ) → Sequences
 code_at w entry = worded (form w) w.base entry (lean w) (begins_at (blocks_in w))
 
 abbrev pub code_of : LeanWeaver → Sequences
 code_of w = code_at w (leads_to w.entries.items w.last)
 
--- and their parts
+-- the parts of its sequences
 abbrev pub parts_at : LeanWeaver → (ℕ → ℕ) → Parts
 parts_at w entry = worded_parts (form w) w.base entry (lean w) (begins_at (blocks_in w))
 

@@ -53,8 +53,8 @@ weave_of w l leader = record {
   held = is_ticked_at l.every;
 }
 
--- The code is near, the halves are not too far from each other, and the check stands in its place. From each entry there are fewer steps to the next tick
--- than from check to check. Each leader has code, on its grain, its entry, and its place in the table
+-- The code is near, the halves are near enough, and the check is in its place. From an entry to the next tick there are
+-- fewer steps than from check to check. Each leader has code, on its grain, its entry, and its place in the table
 pub record LeanIn (w : World) (l : Lean) (leader : ℕ → Bool) : Type 0 where
   pub near : w.form.far ≡ false
   pub small : w.distance ≤ 2 ^ 32
@@ -131,9 +131,10 @@ piece_of w l = 27 + call_steps l.land + 2 * entry_steps l.land + check_steps w +
 abbrev pub LeanKept : Type 0
 LeanKept = (f g : Program) (w : World) (l : Lean) (blocks : List Block) → LeanPlan f g w l blocks → Kept f g w.reached (start_of w) (piece_of w l)
 
--- and the output comes to the input's states in their order
+-- in a plan the output comes to the input's states in their order
 abbrev pub LeanKeptInStep : Type 0
-LeanKeptInStep = (f g : Program) (w : World) (l : Lean) (blocks : List Block) → LeanPlan f g w l blocks → KeptInStep f g w.reached w.distance (start_of w) (piece_of w l)
+LeanKeptInStep = (f g : Program) (w : World) (l : Lean) (blocks : List Block) → LeanPlan f g w l blocks
+    → KeptInStep f g w.reached w.distance (start_of w) (piece_of w l)
 
 pub record IsBoundsOf (w : World) (l : Lean) (bounds : Bounds) : Type 0 where
   pub register : bounds.register ≡ register_bound l.land (swept_steps w) (period l.land (check_steps w) l.every)
@@ -141,7 +142,8 @@ pub record IsBoundsOf (w : World) (l : Lean) (bounds : Bounds) : Type 0 where
 
 -- in a plan changes are caught
 abbrev pub LeanCaught : Type 0
-LeanCaught = (f g : Program) (w : World) (l : Lean) (blocks : List Block) (bounds : Bounds) → LeanPlan f g w l blocks → 1 ≤ w.form.round → IsBoundsOf w l bounds → CaughtInStep f g w.reached w.form.spans bounds (start_of w) (piece_of w l)
+LeanCaught = (f g : Program) (w : World) (l : Lean) (blocks : List Block) (bounds : Bounds) → LeanPlan f g w l blocks → 1 ≤ w.form.round
+    → IsBoundsOf w l bounds → CaughtInStep f g w.reached w.form.spans bounds (start_of w) (piece_of w l)
 
 -- where entries test the signature, jumps land
 abbrev pub LeanLanded : Type 0
@@ -149,13 +151,13 @@ LeanLanded =
     (f g : Program) (w : World) (l : Lean) (blocks : List Block) (entries : List EntryRow) → LeanPlan f g w l blocks → l.land ≡ true
     → ((a e : ℕ) → IsEntry entries a e → (begins_at blocks a ≡ true) × (e ≡ w.entry a)) → LandedInStep 4 f g w.reached entries (start_of w) (piece_of w l)
 
--- and where the code of a block runs under the signature of another one, the run is over soon
+-- with `land`, if the code of a block runs under the signature of another one, the run is over soon
 abbrev pub LeanStrayed : Type 0
 LeanStrayed =
     (f g : Program) (w : World) (l : Lean) (blocks : List Block) → LeanPlan f g w l blocks → l.land ≡ true
     → Strayed g (worded w.form w.base w.entry l (begins_at blocks)) w.entry blocks
 
--- and with the sweep no change before it is silent at the end
+-- with the sweep no change before it is silent at the end
 abbrev pub LeanClean : Type 0
 LeanClean =
     (f g : Program) (w : World) (l : Lean) (blocks : List Block) → LeanPlan f g w l blocks → w.form.sweep ≡ true

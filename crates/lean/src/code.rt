@@ -77,8 +77,11 @@ pub fn lean_code<'a>(
     blocks: &'a [CodeBlock],
 ) -> Result<Woven<LeanWeaver<'a>>, LinkError>
     requires { (f : ElfFile) × IsLeanCut f options.now every test.now blocks.now }
-    ensures code { IfOk result (λ woven. (f : ElfFile) → IsLeanCut f options.now every test.now blocks.now → IsWoven (lean f options.now every (map block_of blocks.now)) f options.now test.now blocks.now (kind woven.weaver) (parts_of woven.weaver) (IsOwn woven.weaver) woven.linked) }
-    ensures cause { IfErr result (λ e. (f : ElfFile) → IsLeanCut f options.now every test.now blocks.now → HasCause (lean f options.now every (map block_of blocks.now)) e) }
+    ensures code { IfOk result (λ woven. (f : ElfFile) → IsLeanCut f options.now every test.now blocks.now
+        → IsWoven (lean f options.now every (map block_of blocks.now)) f options.now test.now blocks.now
+        (kind woven.weaver) (parts_of woven.weaver) (IsOwn woven.weaver) woven.linked) }
+    ensures cause { IfErr result (λ e. (f : ElfFile) → IsLeanCut f options.now every test.now blocks.now
+        → HasCause (lean f options.now every (map block_of blocks.now)) e) }
 {
     let mut weaver = weaver(alloc, test, options, every, blocks)?;
     let count = counted(alloc, &weaver, test, blocks)?;

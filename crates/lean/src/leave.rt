@@ -119,7 +119,8 @@ impl<'a> LeanWeaver<'a> {
         to: &mut PartSink<S>,
     ) -> Result<(), AllocError>
         requires { Comes (S.took to.old.sink) to.old.items (before_parts (form self.now) self.now.distance end.now start at) }
-        ensures { OnOk result (Handed (S.took to.old.sink) (S.took to.new.sink) to.new.items (before_parts (form self.now) self.now.distance end.now start at)) }
+        ensures { OnOk result (Handed (S.took to.old.sink) (S.took to.new.sink) to.new.items
+            (before_parts (form self.now) self.now.distance end.now start at)) }
     {
         if is_end(end) {
             self.before_ecall(start, at, to)?;
@@ -171,7 +172,8 @@ fn put_missed(
     requires ascend { AllPairs (λ b c. b.start < c.start) blocks.now }
     requires fits { FitsLeave class.Branch ins.now }
     requires near { IsNear start next }
-    ensures { OnOk result (out.new ≡ out.old ++ (check_way (opposite_of ins.now.kind) ins.now ++ falls (fall_words (begins (map block_of blocks.now))) start next)) }
+    ensures { OnOk result (out.new ≡ out.old ++ (check_way (opposite_of ins.now.kind) ins.now
+        ++ falls (fall_words (begins (map block_of blocks.now))) start next)) }
 {
     put_check_way(opposite(ins.kind), ins, out)?;
     put_next(blocks, start, next, out)
@@ -264,11 +266,12 @@ impl<'a> LeanWeaver<'a> {
         put_guarded_leap(self.distance, ins, at, out)
     }
 
-    /// The leave of an instruction at `at` that ends the block that begins at `start`, without what stands before an ECALL.
+    /// The leave of an instruction at `at`, which ends the block that begins at `start`, after what precedes an ECALL.
     fn put_stop(&self, ins: &Ins, start: u64, at: u64, out: &mut Emit) -> Result<(), AllocError>
         requires fits { FitsLeave (class_of ins.now.kind) ins.now }
         requires near { TurnsAs (class_of ins.now.kind) ins.now start at }
-        ensures { OnOk result (out.new ≡ out.old ++ last_as self.now.distance (fall_words (begins (blocks_in self.now))) (class_of ins.now.kind) ins.now start at) }
+        ensures { OnOk result (out.new ≡ out.old
+            ++ last_as self.now.distance (fall_words (begins (blocks_in self.now))) (class_of ins.now.kind) ins.now start at) }
     {
         match ins.class() {
             Class::Jump => put_jump(ins, start, at, out)?,

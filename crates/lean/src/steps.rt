@@ -126,7 +126,7 @@ fn links_steps(ins: &Ins) -> u64
     if ins.rd.number() == 0 { 0 } else { 4 }
 }
 
-/// The step of an instruction, if it is no EBREAK.
+/// The step of an instruction, unless it is an EBREAK.
 fn own_step(ins: &Ins) -> u64
     ensures value { result ≡ cond (is_break ins.now.kind) 0 1 }
     ensures bound { result ≤ 1 }

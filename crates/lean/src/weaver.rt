@@ -39,7 +39,7 @@ pub struct LeanWeaver<'a> {
     /// Where the check stands.
     pub(crate) check: u64,
     pub(crate) blocks: &'a [CodeBlock],
-    /// Where the entries stand, as far as that is known: from the entry of a block its tick calls the check.
+    /// Where the entries stand, if known: from the entry of a block its tick calls the check.
     pub(crate) entries: Vec<EntryRow>,
     /// Where others are.
     pub(crate) last: u64,
@@ -70,7 +70,9 @@ impl<'a> LeanWeaver<'a> {
 
     /// Appends the tick of the block that begins at an address, where it has one.
     fn put_tick_of(&self, start: u64, out: &mut Emit) -> Result<(), AllocError>
-        ensures { OnOk result (out.new ≡ out.old ++ cond (ticks_in self.now.counts start) (tick self.now.land start (most_in self.now.counts start) (distance_of (leads_to self.now.entries.items self.now.last start + call_place self.now.land) self.now.check)) []) }
+        ensures { OnOk result (out.new ≡ out.old ++ cond (ticks_in self.now.counts start)
+            (tick self.now.land start (most_in self.now.counts start)
+            (distance_of (leads_to self.now.entries.items self.now.last start + call_place self.now.land) self.now.check)) []) }
     {
         let counted = counted_at(&self.counts, start);
         if counted.ticks {

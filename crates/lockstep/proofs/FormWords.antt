@@ -1,4 +1,4 @@
--- Today's forms meet the laws of the words and of the entry, and so the promises of a plan follow from those of any weave.
+-- Today's forms meet the laws of the words and the entry, so the promises of a plan follow from those of any weave.
 use Rattle.std.proofs.Common.{◌≡◌, ℕ, zero, suc, ◌+◌, ◌*◌, ◌≤◌, List, [], ◌∷◌, ◌++◌, length, refl, sym, ap, ◌∙◌, subst, arith}
 use Rattle.std.proofs.Math.Nat.{mul-le-mul}
 use Rattle.qed_model.specs.Weave.Bounds.{visit_bound, word_bound}
@@ -83,7 +83,7 @@ plan_caught f g w most blocks bounds p law closes some b =
     (subst (λ n. CaughtInStep f g w.reached w.form.spans bounds (start_steps (weave_of w.form most)) n) (sym (stage_is w most))
     (caught_with f g w most (both w most) 0 (both_steps w most) blocks bounds (form_checks w.form) p law closes.mirrors closes.only some (omega (arith, ten)) (bounds_in w most bounds b)))
 
--- also such at places that are open for Lock alone
+-- changes in a plan at places that are open for Lock alone are caught too
 pub plan_caught_all :
     (f g : Program) (w : World) (most : ℕ) (blocks : List Block) (bounds : Bounds) → PlanOf f g w (weave_of w.form most) blocks → Mirrors w → Closes f g w blocks → 1 ≤ w.form.round → IsBoundsOf w.form most bounds
     → CaughtAll f g w (start_steps (weave_of w.form most)) (stage_steps (weave_of w.form most)) bounds
@@ -91,7 +91,7 @@ plan_caught_all f g w most blocks bounds p law closes some b =
     let ten = visits_ten w.form.spans w.form.round some in
     catches_all f g w (weave_of w.form most) blocks p (form_rows w most (begins_at blocks) law) (form_starts w most (begins_at blocks) f g) (form_words w.form most closes.mirrors) closes.only some (omega arith) (omega (arith, ten)) bounds (bounds_in w most bounds b)
 
--- and the sweep lets none end silently
+-- the sweep lets no change end silently
 pub plan_clean : PlanClean
 plan_clean f g w most blocks p law closes some sweeps =
     let ten = visits_ten w.form.spans w.form.round some in

@@ -78,7 +78,7 @@ module _ (f g : Program) (w : World) (v : Weave) (blocks : List Block) (plan : P
   woven : WeaveIn f g w v (begins_at blocks)
   woven = plan_in f g w v blocks plan rows.rows starts
 
-  -- its code is calm
+  -- the code of the output is calm
   code : CalmCode f g w (start_steps v) (stage_steps v)
   code = calm_plan f g w v blocks plan rows.rows starts law closes (omega (arith, room))
 

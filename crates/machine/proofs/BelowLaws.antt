@@ -27,12 +27,12 @@ pub first_found : (n : ℕ) (p : ℕ → Bool) (i : ℕ) → i < n → p i ≡ t
 unfolding first
 first_found n p i lt here before = from_found n p 0 i (omega arith) (omega arith) here before
 
--- where none passes there is no first
+-- if none passes, `first` gives None
 pub first_none : (n : ℕ) (p : ℕ → Bool) → ((j : ℕ) → j < n → p j ≡ false) → first n p ≡ None
 unfolding first
 first_none n p never = from_none n p 0 (λ j lt. never j (omega arith))
 
--- the same two of a test of which a relation is known
+-- the first that passes, found by a relation of numbers and answers
 pub some_is : (post : ℕ → Bool → Type 0) (n i : ℕ) → i < n → post i true → ((k : ℕ) → k < i → post k false) → (p : ℕ → Bool)
     → ((j : ℕ) (b : Bool) → j < n → post j b → b ≡ p j) → Some i ≡ first n p
 some_is post n i lt here before p is = sym (first_found n p i lt (sym (is i true lt here)) (λ k below. sym (is k false (omega arith) (before k below))))
@@ -52,7 +52,7 @@ from_each (suc n) p k j none le lt =
       ]
     ] refl none
 
--- where there is no first, each fails
+-- if `first` gives None, each fails
 pub each_fails : (n : ℕ) (p : ℕ → Bool) → first n p ≡ None → (j : ℕ) → j < n → p j ≡ false
 unfolding first
 each_fails n p none j lt = from_each n p 0 j none (omega arith) (omega arith)
@@ -105,7 +105,7 @@ length-each (suc n) f = omega (arith, length-append (each n f) (f n ∷ []), len
 pub push_each : {A : Type 0} (n : ℕ) (f : ℕ → A) (xs ys : List A) (x : A) → ys ≡ xs ++ x ∷ [] → xs ≡ each n f → x ≡ f n → ys ≡ each (n + 1) f
 push_each n f xs ys x e so_far is = rw (e, so_far, is, each_more) refl
 
--- the same behind a front
+-- the list of such a loop, behind a front
 pub each_front : {A : Type 0} (f : ℕ → A) (xs : List A) → xs ≡ xs ++ each 0 f
 each_front f xs = rw (← each_none f) (sym (append-nil xs))
 

@@ -1,4 +1,4 @@
--- Which registers an instruction writes and reads is what its kind's format says, except that FENCE, whose format is I, names none.
+-- An instruction writes and reads the registers that its kind's format names, but FENCE, of format I, names none.
 use Rattle.std.proofs.Common.{◌≡◌, Bool, true, false, not, ◌&&◌, refl, sym, ap}
 use Rattle.rv_isa.specs.Kind.{class_of, writes_rd, reads_rs1, reads_rs2}
 use Rattle.rv_isa.specs.Ins.{named}

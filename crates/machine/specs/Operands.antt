@@ -1,4 +1,4 @@
--- Which registers an instruction reads and writes, by the fields of its kind's format (RISC-V unprivileged manual, "Base Instruction Formats").
+-- Registers that an instruction reads and writes (RISC-V unprivileged manual, "Base Instruction Formats").
 use Rattle.std.specs.Prelude.{◌≡◌, Bool, true, false, not, ◌&&◌}
 use Rattle.rv_isa.specs.Ins.{named, writes, reads}
 use Rattle.machine.specs.Table.{Ins, Auipc, Fence, Kind, Format, R, S, B, U, J, N, row_of}

@@ -1,5 +1,5 @@
 -- States of the machine, one step, and runs (RISC-V unprivileged manual, RV64I).
--- One hart, whose memory has permissions for each byte; ECALL ends a run and EBREAK fires a check (this project's profile).
+-- A hart whose memory has permissions for each byte. ECALL ends a run, EBREAK fires a check (this project's profile).
 use Rattle.std.specs.Prelude.{◌≡◌, ℕ, zero, suc, ◌+◌, ◌*◌, ◌/◌, ◌%◌, ◌^◌, Bool, false, cond, ◌&&◌, ◌||◌, List, [], ◌∷◌, nat_le, ◌==◌, Option, Some, None, pos, slice_index}
 pub use Rattle.rv_isa.specs.declared.ins.Ins.{Ins}
 pub use Rattle.rv_isa.specs.declared.class.Class.{Class}
@@ -15,8 +15,8 @@ use Rattle.machine.specs.Values.{wrapped, value, holds, width_of, loaded}
 use Rattle.machine.specs.Memory.{Memory, put, number, grants}
 use Rattle.machine.specs.declared.outcome.Cause.TheVariants as cause
 
--- the registers x0 to x31, the pc, the memory, the code ranges by their first address and the one behind their last, and the
--- outcome
+-- the registers x0 to x31, the pc, the memory, the code ranges by their first address and the one behind their last,
+-- and the outcome
 pub record State : Type 0 where
   pub regs : List ℕ
   pub pc : ℕ
@@ -50,7 +50,7 @@ abbrev pub in_range : ℕ → List (ℕ × ℕ) → Bool
 in_range a [] = false
 in_range a (r ∷ rs) = (nat_le r.0 a && nat_le (a + 4) r.1) || in_range a rs
 
--- no code may be executed there, a word that is no instruction, or an instruction
+-- no code may be executed there, the word is not an instruction, or it is one
 pub data Fetched : Type 0 where
   Refused : Fetched
   Unknown : ℕ → Fetched
@@ -94,7 +94,7 @@ computed_value Lui i pc regs = imm i
 computed_value Auipc i pc regs = target i pc
 computed_value k i pc regs = value k (slice_index regs i.rs1) (operand (row_of k).format i regs)
 
--- the same in a state
+-- the second operand of an instruction in a state
 abbrev pub second : Format → Ins → State → ℕ
 second f i s = operand f i s.regs
 

@@ -32,7 +32,7 @@ u32 x = x % 2 ^ 32
 abbrev pub from_test : Bool → ℕ
 from_test b = cond b 1 0
 
--- rounded towards zero; by 0 all bits are set, and the overflow wraps (RISC-V unprivileged manual, "Division Operations")
+-- rounded towards zero; by 0 all bits are set, and the overflow wraps (unprivileged manual, "Division Operations")
 abbrev pub quotient : ℤ → ℤ → ℕ
 quotient a b = cond (is_zero b) (2 ^ 64 - 1) (wrapped (int_div a b))
 
@@ -40,8 +40,8 @@ quotient a b = cond (is_zero b) (2 ^ 64 - 1) (wrapped (int_div a b))
 abbrev pub remainder : ℤ → ℤ → ℕ
 remainder a b = cond (is_zero b) (wrapped a) (wrapped (int_rem a b))
 
--- what a computing kind gives for its first operand and its second, a register or the immediate; LUI and AUIPC read the pc or
--- no register, and have their values at `result`
+-- what a computing kind gives for its first operand and its second, a register or the immediate; LUI and AUIPC read the
+-- pc or no register, and have their values at `result`
 unfoldable pub value : Kind → ℕ → ℕ → ℕ
 value Addi a b = (a + b) % 2 ^ 64
 value Add a b = (a + b) % 2 ^ 64

@@ -190,7 +190,7 @@ places_later ss order n o = λ k d l. let h = o.places k d l in let below = h.be
 number_last : (ss : List LoadSegment) (n k : ℕ) (r s : LoadSegment) → slice_get ss n ≡ Some r → k < n + 1 → slice_get ss k ≡ Some s → (k < n) ⊎ ((k ≡ n) × (s ≡ r))
 number_last ss n k r s at l e = ⊎_elim (λ m. inl m) (λ m. let is : k ≡ n = omega arith in inr (is, same_Some s r (sym e ∙ ap (slice_get ss) is ∙ at))) (cases_lt k n)
 
--- none so far
+-- an empty order
 pub orders_none : (ss : List LoadSegment) → Orders ss [] 0
 unfolding IsDistinct
 orders_none ss = record { places = λ k d l. absurd (omega arith); named = λ k s l e some. absurd (omega arith); once = tt }

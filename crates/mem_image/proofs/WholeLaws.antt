@@ -74,7 +74,7 @@ spans s a n h =
     let room = leb-true _ _ p.1 in
     (low, omega (arith, low, near, room))
 
--- and each fewer
+-- a segment with some bytes from an address on has each smaller number of them
 pub has_fewer : (s : LoadSegment) (a m n : ℕ) → has_all s a m ≡ true → n ≤ m → has_all s a n ≡ true
 has_fewer s a m n h l = grind (arith, nat_tests)
 
@@ -151,7 +151,7 @@ refused_whole need ss k s a n h e low room t =
     let same : wrap a ≡ a = omega arith in
     rw (same, ap (allows need) (get_whole ss k s a h e (has_span s a (suc n) a low room (omega arith) (omega arith))), t) refl
 
--- ---- the same, by what the code knows
+-- ---- the bytes of an access, by what the code knows
 -- the segment that the code reads at the place that was found
 pub here_whole : (ss l : List LoadSegment) (a n k : ℕ) (s : LoadSegment) → l ≡ ss → IsWholeAt l a n k → k < length l → s ≡ get_or ss k s → (slice_get ss k ≡ Some s) × (has_all s a n ≡ true)
 here_whole ss l a n k s e h below read =

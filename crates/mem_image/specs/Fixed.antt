@@ -16,7 +16,7 @@ pub record Stands (m : Memory) (s : LoadSegment) : Type 0 where
   pub cells : (q : ℕ) → has s q ≡ true → get m q ≡ Some (cell_at s q)
   pub ends : s.address + s.size ≤ 2 ^ 64
 
--- and its bytes may be executed, but not written
+-- the memory has the segment, whose bytes may be executed, but not written
 pub record IsFixed (m : Memory) (s : LoadSegment) : Type 0 where
   pub stands : Stands m s
   pub executed : s.flags.execute ≡ true

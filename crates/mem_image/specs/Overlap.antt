@@ -20,7 +20,7 @@ segments_of specs = map segment_of specs
 abbrev pub any_share : List LoadSegment → List LoadSegment → Bool
 any_share ss ts = list_any (λ s. list_any (share s) ts) ss
 
--- and of two files
+-- a segment of the one file shares a byte with one of the other
 abbrev pub files_share : Program → Program → Bool
 files_share f g = any_share f.segments g.segments
 
@@ -49,7 +49,7 @@ pub record AreSound (ss : List LoadSegment) : Type 0 where
   pub fit : AllFitMemory ss
   pub ascends : Ascends 0 ss
 
--- why there is no image: the least pair that shares a byte, or, where none does, a lack of memory
+-- the reason against an image: the least pair that shares a byte, or else a lack of memory
 abbrev pub Explains : List LoadSegment → ImageError → Type 0
 Explains ss (Overlap i j) = IsLeastPair (Overlaps ss) i j
 Explains ss Memory = AreApart ss

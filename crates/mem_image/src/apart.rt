@@ -9,8 +9,8 @@ use crate::held::Held;
 use crate::places::place;
 use std::alloc::AllocError;
 
-/// Sets the bytes of a value from number `from` on at those of `width` addresses that are mapped, where the bytes before were set.
-/// Each page is kept until the later bytes are set, so that all stays where there is no memory.
+/// Sets the bytes of a value from number `from` on at those of `width` addresses that are mapped; those before are set.
+/// Each page is kept until the later bytes are set, so that without memory all stays.
 pub fn put_from(
     pages: &mut [Held],
     address: u64,
@@ -22,7 +22,8 @@ pub fn put_from(
     requires part { from ≤ width }
     requires small { width ≤ 8 }
     ensures sound { AreSound pages.new }
-    ensures put { IfOk result (λ _. (m : Memory) → ((q : ℕ) → 2 ^ 64 ≤ q → get m q ≡ None) → memory_of pages.old ≡ put m address from value → memory_of pages.new ≡ put m address width value) }
+    ensures put { IfOk result (λ _. (m : Memory) → ((q : ℕ) → 2 ^ 64 ≤ q → get m q ≡ None)
+        → memory_of pages.old ≡ put m address from value → memory_of pages.new ≡ put m address width value) }
     ensures kept { IfErr result (λ _. pages.new ≡ pages.old) }
 {
     if from == width {

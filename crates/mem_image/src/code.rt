@@ -9,8 +9,8 @@ use crate::held::{Access, Held};
 use std::alloc::AllocError;
 use std::marker::Model;
 
-/// Bytes of a page that may be executed and not written, as a segment of their own. They stay what they were, whatever becomes of
-/// the image that gave them.
+/// Bytes of a page that may be executed and not written, as a segment of their own. They stay as they were, whatever
+/// becomes of the image that gave them.
 #[derive(Drop)]
 pub struct Code {
     held: Held,

@@ -47,8 +47,8 @@ impl Pages {
         &self.all
     }
 
-    /// Sets the low bytes of a value at at most 8 addresses, where page number `near` has eight bytes from the first on, they may be
-    /// written, and it has no other owner. Else nothing changes, and the answer is false.
+    /// Sets the low bytes of a value at at most 8 addresses, if page number `near` has eight bytes from the first on,
+    /// they may be written, and it has no other owner. Else nothing changes, and the answer is false.
     #[inline(always)]
     pub fn write_near(&mut self, near: usize, address: u64, width: u64, value: u64) -> bool
         requires { width ≤ 8 }
@@ -59,8 +59,8 @@ impl Pages {
         put_near(&mut self.all, near, address, width, value)
     }
 
-    /// Sets the low bytes of a value at at most 8 addresses, which the page of this number has. Where it may not be written, nothing
-    /// changes, and the answer is false.
+    /// Sets the low bytes of a value at at most 8 addresses, which the page of this number has. If it may not be
+    /// written, nothing changes, and the answer is false.
     pub fn write(
         &mut self,
         at: usize,
@@ -98,7 +98,7 @@ impl Pages {
         all_same(&self.all, &other.all)
     }
 
-    /// The same pages, whose bytes are shared.
+    /// A copy that shares the bytes of the pages.
     pub fn copy(&self) -> Result<Pages, AllocError>
         ensures { IfOk result (λ pages. pages ≡ self.now) }
     {

@@ -84,7 +84,7 @@ pub fn whole_at(pages: &[Held], near: usize, address: u64, width: u64) -> Option
     whole_far(pages, address, width)
 }
 
-/// The same, of any page.
+/// The page that has all of the bytes of an access, sought among all pages.
 #[inline(never)]
 fn whole_far(pages: &[Held], address: u64, width: u64) -> Option<usize>
     requires { AreSound pages.now }

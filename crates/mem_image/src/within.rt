@@ -34,7 +34,7 @@ pub fn number_within(
     Some(page.number(address, width))
 }
 
-/// The same, where page number `near` has eight bytes from the address on, with the permission. None tells nothing.
+/// The number at an address, if page `near` has eight bytes from there on with the permission; None tells nothing.
 #[inline(always)]
 #[tactic(auto, using(crate::proofs::SegmentLaws::stands_at, crate::proofs::WholeLaws::has_fewer, crate::proofs::WholeLaws::whole_granted, crate::proofs::WholeLaws::whole_number, crate::proofs::WholeLaws::granted_number))]
 pub fn number_near(
@@ -59,8 +59,8 @@ pub fn number_near(
     Some(page.number(address, width))
 }
 
-/// Sets the low bytes of a value at at most 8 addresses, where page number `near` has eight bytes from the first on, they may be
-/// written, and the page has no other owner. Else nothing changes, and the answer is false.
+/// Sets the low bytes of a value at at most 8 addresses, if page number `near` has eight bytes from the first on, they
+/// may be written, and the page has no other owner. Else nothing changes, and the answer is false.
 #[inline(always)]
 pub fn put_near(pages: &mut [Held], near: usize, address: u64, width: u64, value: u64) -> bool
     requires sound { AreSound pages.old }
@@ -79,8 +79,8 @@ pub fn put_near(pages: &mut [Held], near: usize, address: u64, width: u64, value
     pages[near].put_own(address, width, value)
 }
 
-/// Sets the low bytes of a value at at most 8 addresses, which the page of this number has. Where it may not be written, nothing
-/// changes, and the answer is false.
+/// Sets the low bytes of a value at at most 8 addresses, which the page of this number has. If it may not be written,
+/// nothing changes, and the answer is false.
 #[inline(always)]
 #[tactic(auto, using(crate::proofs::WholeLaws::here_at, crate::proofs::WholeLaws::whole_granted, crate::proofs::WholeLaws::whole_refused, crate::proofs::WholeLaws::whole_put, crate::proofs::WholeLaws::sound_like, crate::proofs::WholeLaws::set_none, crate::proofs::WholeLaws::any_err))]
 pub fn put_within(

@@ -24,7 +24,7 @@ leads_from S P R f None y s p = p
 leads_from S P R f (Some a) None s p = p
 leads_from S P R f (Some a) (Some b) s p = f a b s p
 
--- what is told then
+-- what is known then
 pub leads_to :
     (S : FolderState → Type 0) (P : FolderState → FolderState → Type 0) (T : FolderState → Type 0) → ((a b : FolderState) → S a → P a b → T b)
     → (x y : Option FolderState) → IfSome x S → Leads P x y → IfSome y T
@@ -40,7 +40,7 @@ some_there m bytes e = subst (λ n. IsSomeAnd n (λ _. Unit {0})) (sym e) tt
 pub has_new : (x y : Option FolderState) → IfSome x IsEmpty → Leads HasRights x y → HasNew y
 has_new x y e l = leads_to IsEmpty HasRights (λ b. IsSomeAnd b.beside (λ _. Unit {0})) (λ a b s h. some_there b.beside [] (ap (λ o. o.beside) h ∙ s)) x y e l
 
--- its bytes
+-- the new file has its bytes
 appended : (bytes : List ℕ) (b c : FolderState) → b.beside ≡ Some [] → Appends bytes b c → c ≡ record b { beside = Some bytes; is_synced = false }
 appended bytes b c e h = subst (λ m. IfSome m (λ held. c ≡ record b { beside = Some (held ++ bytes); is_synced = false })) e h
 
@@ -71,7 +71,7 @@ pub full_kept :
 full_kept bytes x y z u e p q r =
     leads_then (IsFull bytes) KeepsOld KeepsOld (λ a c d h k. record { old = k.old ∙ h.kept.old; stuck = k.stuck ∙ h.kept.stuck }) x z u (full bytes x y z e p q) r
 
--- and all of them on the disk
+-- all bytes of the new file are on the disk
 pub is_written :
     (bytes : List ℕ) (x y z u : Option FolderState) → IfSome x IsEmpty → Leads HasRights x y → Leads (Appends bytes) y z → Leads IsSynced z u → Leads (IsWritten bytes) x u
 is_written bytes x y z u e p q r =

@@ -17,12 +17,12 @@ use std::rt::Files;
 /// The files of the machine, by their paths.
 ///
 /// A store writes a new file beside the old one and renames it over, so that a disk that is full, or a cut, leaves the
-/// old bytes. A path that is a link, a pipe or a device is written as it is, and so is a file where the machine lets no
+/// old bytes. A path that is a link, a pipe or a device is written as it is, and so is a file if the machine lets no
 /// new one take its place. A cut may leave a file whose name ends in `.new`.
 ///
-/// Contracts see it as its count of faults, which serves as all of a shelf's counts, and which a call raises exactly
-/// where it answers `Failed`. They are told nothing of what the files hold: that a path that is opened is the file of
-/// that name is trusted. A load of a path where no file is fails.
+/// Contracts see its count of faults, which serves as all of a shelf's counts, and which a call raises exactly if it
+/// answers `Failed`. They do not see what the files hold: that a path that is opened is the file of that name is
+/// trusted. A load of a path without a file fails.
 #[derive(Drop)]
 pub struct DirShelf<R: Files + Drop> {
     machine: R,

@@ -10,7 +10,7 @@ use std::io::{Error, ErrorKind};
 
 /// The folder of a file, in which a new file may be made beside it.
 pub trait Folder {
-    /// What the folder has, where it tells it. One that tells it tells it after each call, and one that does not never does.
+    /// What the folder has, if it is known. One that reports it does so after each call, any other one never.
     ghost held: { Self → Option FolderState };
 
     /// Makes a new file without bytes, under a name that no file had.
@@ -18,7 +18,7 @@ pub trait Folder {
         ensures made { OnOk result (Leads IsMade (held self.old) (held self.new)) }
         ensures none { OnErr result (Leads Stays (held self.old) (held self.new)) };
 
-    /// Gives the new file the rights of the old one, as far as the machine lets it.
+    /// Gives the new file the rights of the old one, if the machine lets it.
     fn take_rights(&mut self)
         ensures { Leads HasRights (held self.old) (held self.new) };
 

@@ -1,4 +1,4 @@
-//! A sink in memory whose calls fail where they are told to.
+//! A sink in memory whose calls fail as planned.
 ghost use Rattle.std.specs.Prelude.{◌≡◌, ◌<◌, ◌↔◌, ℕ, [], ◌∷◌, ◌++◌, Some, None, OnOk, OnErr, IfOk, IsErrOf, length, take, Contains};
 ghost use Rattle.qed_io.specs.Counts.{counted};
 ghost use Rattle.qed_io.specs.Memory.{taken};

@@ -19,7 +19,7 @@ pub struct WriterSink<W: Write + Drop> {
     pub last_error: Option<io::Error>,
 }
 
-/// Standard output. Contracts are told nothing of what was written: that the bytes of a write come out is trusted.
+/// Standard output. Contracts do not see what was written: that the bytes of a write come out is trusted.
 pub type StdSink<'a, P> = WriterSink<Printer<'a, P>>;
 
 impl<'a, P: Print> WriterSink<Printer<'a, P>> {

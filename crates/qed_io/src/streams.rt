@@ -12,7 +12,7 @@ use std::alloc::Global;
 use std::io;
 use std::io::{Error, ErrorKind, Read, Write};
 
-/// What a load answers for an error of the machine, which is kept: `Memory` exactly for want of memory, and else `Failed`.
+/// What a load answers for an error of the machine, which is kept: `Memory` exactly for want of memory, else `Failed`.
 fn load_error(error: Error, last_error: &mut Option<Error>) -> LoadError
     ensures { result ≡ load_error_of (error_kind error) }
 {
@@ -23,7 +23,7 @@ fn load_error(error: Error, last_error: &mut Option<Error>) -> LoadError
     }
 }
 
-/// The first bytes that a reader has left, at most so many.
+/// The first bytes that a reader has left, at most `most`.
 fn read_start<R: Read + Drop>(reader: R, alloc: Global, most: u64) -> io::Result<Vec<u8>>
     ensures { IfOk result (λ bytes. IfSome (R.remaining reader) (λ held. bytes.items ≡ take most held)) }
 {
@@ -51,10 +51,10 @@ fn within(
     }
 }
 
-/// Loads a file that was opened, and counts a fault exactly where it answers `Failed`. The machine's error is kept. It reads one byte past
-/// the limit, which tells a longer file, and no more of it.
+/// Loads a file that was opened, and counts a fault exactly if it answers `Failed`. The machine's error is kept. It
+/// reads one byte past the limit, which shows a longer file, and no more of it.
 ///
-/// Errors: `TooLong` only where the file has more bytes than the limit, and `Failed` or `Memory` as the machine says.
+/// Errors: `TooLong` only if the file has more bytes than the limit, and `Failed` or `Memory` as the machine says.
 pub(crate) fn load_opened<R: Read + Drop>(
     opened: io::Result<R>,
     alloc: Global,

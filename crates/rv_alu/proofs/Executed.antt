@@ -27,7 +27,7 @@ jumped_aligned : (regs : List ℕ) (next : ℕ) (s : State) → next % 4 ≡ 0 �
 unfolding jumped
 jumped_aligned regs next s h = let b : (next % 4 == 0) ≡ true = eq-eqb _ _ h in rw b refl
 
--- a branch that is not taken goes to the next word, which is no target that could be off its grain
+-- a branch that is not taken goes to the next word, and that target is on its grain
 taken-or-not : (b : Bool) (regs : List ℕ) (t n : ℕ) (s : State) → n % 4 ≡ 0 → cond b (jumped regs t s) (moved regs n s) ≡ jumped regs (cond b t n) s
 taken-or-not true regs t n s h = refl
 taken-or-not false regs t n s h = sym (jumped_aligned regs n s h)

@@ -31,7 +31,7 @@ abbrev pub landing : Kind → Ins → ℕ → List ℕ → ℕ
 landing Jalr i pc regs = (slice_index regs i.rs1 + imm i) % 2 ^ 64 / 2 * 2
 landing _ i pc regs = target i pc
 
--- the same of an instruction's own kind
+-- where a jump of the instruction's own kind goes
 abbrev pub landed : Ins → ℕ → List ℕ → ℕ
 landed i pc regs = landing i.kind i pc regs
 

@@ -19,7 +19,7 @@ not_ok (Err other) fault is e = absurd (cc)
 same_fault : (given : Result Given Fault) (f g : Fault) → given ≡ Err f → given ≡ Err g → f ≡ g
 same_fault given f g d e = cc
 
--- no line before a number is at fault, so that of the fault is no smaller
+-- no line before a number is at fault, so that of the fault is at least that number
 before_fault : (text : List ℕ) (fault : Fault) (m n : ℕ) → AreFaultless (lines_of text) m → IsFirstFault text fault n → n - 1 < m → ⊥
 before_fault text fault m n free x less = not_ok (given_at (lines_of text) (n - 1)) fault (free (n - 1) less) x.found
 

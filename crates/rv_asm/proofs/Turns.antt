@@ -66,14 +66,14 @@ lines_end g text made start now next f xs r y is step gives rest done closure te
     (YieldsList-end (YieldsList-from_slice_split g (λ b. b == newline) text (ap slice.split_rest gives ∙ rest) (ap slice.split_done gives ∙ done) (ap slice.split_callee gives ∙ closure) tests) xs now y r next is step).1
 
 -- ---- before a line
--- so many lines were counted, and the place is behind them
+-- n lines were counted, and the place is behind them
 pub record IsBefore (text : List ℕ) (n number : ℕ) (p : Place) : Type 0 where
   pub counted : number ≡ n
   pub placed : p ≡ place_behind (take n (lines_of text))
   pub code_near : p.code_words < 2 ^ 32
   pub values_near : p.data_words < 2 ^ 32
 
--- and behind it
+-- behind the next line one more is counted
 pub before_next :
     (text : List ℕ) (n m number : ℕ) (line : List ℕ) (p next : Place) (h : Head) → length text ≤ 67108864 → IsTurn (lines_of text) n line → n + 1 ≡ m → IsBefore text n number p
     → h ≡ head_in line → next ≡ next_place p h → IsBefore text m (number + 1) next

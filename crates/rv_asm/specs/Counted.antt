@@ -1,4 +1,4 @@
--- What is told of a text that was assembled.
+-- The numbers of words of a text that was assembled.
 use Rattle.std.specs.Prelude.{◌≡◌, ℕ, List, length}
 use Rattle.rv_asm.specs.declared.assembly.Assembly.{Assembly}
 use Rattle.rv_asm.specs.Assembled.{Assembled, code_of, data_of}

@@ -55,7 +55,7 @@ abbrev pub label_given : Bool → Result Given Fault
 label_given true = Err RedefinedLabel
 label_given false = Ok given.Label
 
--- what line n (from 0) at a place gives, of its first word and what follows it, or the first fault on it; `labels` has the first definition of each label
+-- what line n (from 0) at a place gives, by its words, or its first fault; `labels` has each label's first definition
 unfoldable pub given_by : (List ℕ → Option LabelAt) → Place → ℕ → Head → List ℕ → List ℕ → Result Given Fault
 given_by labels p n Blank word rest = Ok given.Nothing
 given_by labels p n (Instruction kind) word rest = in_code p (assembled_word labels (address_at p) kind rest)

@@ -10,6 +10,6 @@ pub record IsSoFar (lines : List (List ℕ)) (n : ℕ) (p : Program) : Type 0 wh
   pub words : p.values.items ≡ data_of lines n
   pub symbols : p.symbols.items ≡ symbols_of lines n
 
--- and so are all lines
+-- the program is that of all lines
 abbrev pub IsProgram : List (List ℕ) → Program → Type 0
 IsProgram lines p = IsSoFar lines (length lines) p

@@ -40,11 +40,11 @@ fn assembled(alloc: Global, text: &[u8]) -> Result<Assembly, AsmError>
     })
 }
 
-/// The executable that a text describes: its code at 0x10000 with the section `.text`, its data, where there is any, at
-/// 0x20000 with the section `.data`, and its labels as local symbols; with the numbers of its words. The text has at most
-/// 67,108,864 bytes.
+/// The executable that a text describes, with the numbers of its words. Its code is at 0x10000 with the section
+/// `.text`. Its data, if there is any, is at 0x20000 with the section `.data`, and its labels are local symbols. The
+/// text has at most 67,108,864 bytes.
 ///
-/// An error tells the first line at fault, or that no line gives an instruction, or that there is no memory.
+/// An error reports the first line at fault, a text without instructions, or want of memory.
 pub fn assemble_counted(alloc: Global, text: &[u8]) -> Result<Assembly, AsmError>
     requires { length text.now ≤ 67108864 }
     ensures answer { MatchResult result (λ made. IsAssembly text.now made) (λ e. IsRefused text.now e) }

@@ -12,10 +12,10 @@ use crate::operands::{raw_word_in, word_of};
 use crate::place::Place;
 use texts::number;
 
-/// At most so many code words.
+/// The most code words.
 const MAX_CODE: u64 = 16_384;
 
-/// At most so many data words.
+/// The most data words.
 const MAX_DATA: u64 = 131_072;
 
 /// What a line gives.

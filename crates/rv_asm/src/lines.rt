@@ -127,7 +127,7 @@ pub fn label_in(word: &[u8]) -> Option<&[u8]>
     (is_name(name) && rest.is_empty()).then_some(name)
 }
 
-/// The same; of no label where the first word is none.
+/// The name of the label that a first word defines, or an empty one.
 pub fn label_name(word: &[u8]) -> &[u8]
     ensures { result.now ≡ unwrap_or (label_in_of word.now) [] }
 {

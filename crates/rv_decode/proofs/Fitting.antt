@@ -1,4 +1,4 @@
--- The rows at the place of a word decide which instruction it is. Both ways go by a test that computes over the whole table.
+-- The rows at the place of a word decide its instruction. Both ways go by a test that computes over the whole table.
 use Rattle.std.proofs.Common.{◌≡◌, ℕ, ◌+◌, ◌*◌, ◌/◌, ◌%◌, ◌<◌, zero, suc, Bool, true, false, cond, not, ◌&&◌, ◌||◌, List, [], ◌∷◌, length, get_or, Some, None, refl, sym, ap, ◌∙◌, arith}
 use Rattle.std.specs.Prelude.{Option, bit_and, ◌==◌}
 use Rattle.std.specs.List.{list_all, list_any}
@@ -135,7 +135,7 @@ word_right w =
     all_at (list_all right) (get_or places (bits w 2 5) []) (bits w 12 3) [] l (second_bound w)
 
 -- ---- the instruction of a word
--- where no row at its place fits, the word is no instruction
+-- if no row at its place fits, the word is not an instruction
 pub no_row : (w : ℕ) (rs : List Row) (o : Option Row) → rs ≡ listed_at places w → o ≡ first_fit rs w → o ≡ None → None ≡ decode_of w
 no_row w rs o p q n =
     let e : first_fit (listed_at places w) w ≡ None = ap (λ rs. first_fit rs w) (sym p) ∙ sym q ∙ n in

@@ -49,7 +49,7 @@ set_same f i v w regs others above h k e r is = let s = some-named _ i.rd r is i
       let low : 0 < d = omega (arith, s, p) in
       rw (← s) (slice_index-set_reg_same others (f d) w (above d low) k ∙ (e ∙ sym (slice_index-set_reg_same regs d v low h)))
 
--- the same pairs
+-- pairs of registers
 pub pair-above : (r : ℕ) → 0 < r → 0 < pair r
 pair-above zero h = h
 pair-above (suc r) h = omega arith

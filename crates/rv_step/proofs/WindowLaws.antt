@@ -109,7 +109,7 @@ after_act (Known i) s = after_execute (class_of i.kind) i s
 pub window_acted : (s : State) (w : Window) → IsWindow s w → IsWindow (act (next s) s) w
 window_acted s w h = stays s _ w (after_act (next s) s) h
 
--- and what is held stays so, as does what the loop of a long run keeps
+-- what is held at an address stays so, as does what the loop of a long run keeps
 held : (s t : State) (a : ℕ) (i : Ins) → IsAfter s t → IsHeld s a i → IsHeld t a i
 held s t a i f h = record {
   word = h.word;

@@ -27,7 +27,7 @@ is_code_word s a = (a % 4 == 0) && (in_range a s.ranges && grants (λ f. f.execu
 abbrev pub state_word : State → ℕ → Option ℕ
 state_word s a = cond (is_code_word s a) (Some (number s.memory a 4)) None
 
--- a strike is no step
+-- a strike does not count as a step
 abbrev pub struck_progress : Place → ℕ → Progress → Progress
 struck_progress p x m = record { state = struck p x m.state; steps = m.steps }
 
@@ -54,7 +54,7 @@ pub record IsMade (m : Progress) (n : ℕ) (after : Progress) : Type 0 where
   pub before : after.steps ≡ m.steps
   pub going : (k : ℕ) → k < n → goes_on (progress m k).state.outcome ≡ true
 
--- of n steps so many are made: each from a state that goes on, and where they are not all, behind them it does not
+-- `made` of n steps are made: each from a state that goes on; if fewer than n, it does not go on behind them
 pub record AreMade (m : Progress) (n made : ℕ) : Type 0 where
   pub within : made ≤ n
   pub all : progress m made ≡ progress m n

@@ -3,7 +3,7 @@ use Rattle.std.specs.Prelude.{◌≡◌, ℕ, ◌+◌, ◌-◌, ◌<◌, ◌≤�
 use Rattle.std.specs.List.Sorted.{IsNonDecreasingBy}
 use Rattle.machine.specs.Step.{in_range}
 
--- the four bytes from an address on lie in a range, which is told by its first address and the one behind its last
+-- the four bytes from an address on lie in a range, given by its first address and the one behind its last
 abbrev pub spans_word : ℕ → ℕ × ℕ → Bool
 spans_word a r = nat_le r.0 a && nat_le (a + 4) r.1
 

@@ -43,7 +43,7 @@ pub record StandsFixed (s : State) (a w : ℕ) : Type 0 where
   pub range : in_range a s.ranges ≡ true
   pub word : number_in code.bytes (a - code.address) 4 ≡ w
 
--- and it is the word of the instruction
+-- the code at the address has the word of the instruction
 pub record IsHeld (s : State) (a : ℕ) (i : Ins) : Type 0 where
   pub word : ℕ
   pub stands : StandsFixed s a word

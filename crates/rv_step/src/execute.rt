@@ -41,7 +41,7 @@ impl Hart {
         image.fetch_on(self.pc)
     }
 
-    /// The instruction at an address, or None where no code may be executed there or the word is no instruction.
+    /// The instruction at an address, or None if no code may be executed there or the word is not one.
     #[tactic(auto, unfolding(machine::specs::Step::fetched_at))]
     pub(crate) fn known(&self, image: &Image, address: u64) -> Option<Ins>
         ensures { result ≡ known_at (with_memory self.now image.now).state address }
@@ -75,7 +75,7 @@ impl Hart {
         Ok(on)
     }
 
-    /// The same, with a word that is decoded anew.
+    /// Executes a word that is decoded anew.
     #[inline(never)]
     fn advance_new(&mut self, word: u32, image: &mut Image) -> Result<bool, AllocError>
         requires { state_word (with_memory self.old image.old).state self.old.pc ≡ Some word }
@@ -178,8 +178,8 @@ impl Hart {
         self.regs.set(rd, value);
     }
 
-    /// One instruction, and whether it surely left the outcome. The pc is a multiple of 4, as it is where an instruction was fetched. Each
-    /// `LOOP` is a function of its own, with one caller, so that LLVM puts it there.
+    /// One instruction, and whether it surely left the outcome. The pc is a multiple of 4, as it is behind a fetch.
+    /// Each `LOOP` is a function of its own, with one caller, so that LLVM puts it there.
     #[tactic(auto, unfolding(machine::specs::Step::execute))]
     #[inline(always)]
     pub(crate) fn execute<const LOOP: u32>(

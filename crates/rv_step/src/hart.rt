@@ -51,8 +51,8 @@ impl Model for Hart {
 }
 
 impl Hart {
-    /// The hart that a file starts: the pc at the entry, the file's code ranges, and x0 at 0 whatever the first number is. It goes
-    /// on, and no step was made.
+    /// The hart that a file starts: the pc at the entry, the file's code ranges, and x0 at 0 whatever the first number
+    /// is. It goes on, and no step was made.
     pub fn start(alloc: Global, file: &ElfFile, regs: &[u64; 32]) -> Result<Hart, AllocError>
         ensures { IfOk result (λ hart. hart ≡ hart_of (begun (start (loaded_file file.now) regs.now))) }
     {
@@ -66,14 +66,14 @@ impl Hart {
         })
     }
 
-    /// One step in a memory, as far as the hart goes on, and how it stands then (RISC-V unprivileged manual, RV64I and the M
+    /// One step in a memory, if the hart goes on, and how it stands then (RISC-V unprivileged manual, RV64I and the M
     /// extension). A step that ends, fires or traps changes nothing but the outcome, and is counted.
     #[tactic(auto, using(crate::proofs::Running::stays, crate::proofs::Running::made_none, crate::proofs::Running::step_made, crate::proofs::Running::made_counted, crate::proofs::Running::one_run, crate::proofs::WindowLaws::step_acts))]
     pub fn step(&mut self, image: &mut Image) -> Result<Outcome, AllocError>
         ensures step { IfOk result (λ _. with_memory self.new image.new ≡ advanced (with_memory self.old image.old)) }
         ensures outcome { IfOk result (λ o. o ≡ self.new.outcome) }
 
-        // Where there is no memory for a page, nothing changes.
+        // Without memory for a page, nothing changes.
         ensures kept { IfErr result (λ _. self.new ≡ self.old) }
         ensures memory { IfErr result (λ _. image.new ≡ image.old) }
     {
@@ -91,19 +91,19 @@ impl Hart {
         ensures run { IfOk result (λ _. with_memory self.new image.new ≡ progress (with_memory self.old image.old) n) }
         ensures outcome { IfOk result (λ o. o ≡ self.new.outcome) }
 
-        // Where there is no memory for a page, the steps before were made.
+        // Without memory for a page, the steps before were made.
         ensures part { IfErr result (λ _. IsPart (with_memory self.old image.old) n (with_memory self.new image.new)) }
     {
         self.run_made(image, n)?;
         Ok(self.outcome)
     }
 
-    /// The same, and how many steps were made: as many as the number says, or fewer where the hart stopped.
+    /// Runs in a memory, and counts the steps that were made: as many as the number says, or fewer if the hart stopped.
     pub fn run_made(&mut self, image: &mut Image, n: u64) -> Result<u64, AllocError>
         ensures run { IfOk result (λ _. with_memory self.new image.new ≡ progress (with_memory self.old image.old) n) }
         ensures made { IfOk result (λ made. AreMade (with_memory self.old image.old) n made) }
 
-        // Where there is no memory for a page, the steps before were made.
+        // Without memory for a page, the steps before were made.
         ensures part { IfErr result (λ _. IsPart (with_memory self.old image.old) n (with_memory self.new image.new)) }
     {
         let (made, done) = self.run_uncounted(image, n);
@@ -112,8 +112,8 @@ impl Hart {
         Ok(made)
     }
 
-    /// The same, but for the hart's count of steps, which stays: the answer has how many were made. Where the run is over sooner, the
-    /// hart stopped, or there was no memory for a page.
+    /// Runs in a memory, and leaves the hart's own count; the answer has how many steps were made. If there are fewer,
+    /// the hart stopped, or memory for a page ran out.
     fn run_uncounted(&mut self, image: &mut Image, n: u64) -> (u64, Result<(), AllocError>)
         ensures made { IsMade (with_memory self.old image.old) result.0 (with_memory self.new image.new) }
         ensures within { result.0 ≤ n }
@@ -132,7 +132,7 @@ impl Hart {
         (n - rest, done)
     }
 
-    /// The same, but the answer has how many steps are left, so that the loop has one counter. Each word is sought in a window.
+    /// Runs, with each word sought in a window. The answer: how many steps are left, so that the loop has one counter.
     #[inline(never)]
     fn run_few(&mut self, image: &mut Image, n: u64) -> (u64, Result<(), AllocError>)
         ensures made { IsMade (with_memory self.old image.old) (n - result.0) (with_memory self.new image.new) }
@@ -145,7 +145,7 @@ impl Hart {
         self.run_by(image, &mut Words { window, more }, n)
     }
 
-    /// The same, with a table of instructions, where there is memory for one.
+    /// Runs with a table of instructions, if there is memory for one. The answer has how many steps are left.
     #[inline(never)]
     fn run_long(&mut self, image: &mut Image, n: u64) -> (u64, Result<(), AllocError>)
         ensures made { IsMade (with_memory self.old image.old) (n - result.0) (with_memory self.new image.new) }
@@ -163,7 +163,7 @@ impl Hart {
         self.run_by(image, &mut Instructions { window, table }, n)
     }
 
-    /// The same, with what each step has its instruction from. All steps are made here, so that LLVM makes one loop of them.
+    /// Runs with instructions from a source. All steps are made here, so that LLVM makes one loop of them.
     #[inline(always)]
     #[tactic(auto, using(crate::proofs::Running::none_left, crate::proofs::Running::step_left))]
     fn run_by<S: Source>(
@@ -196,7 +196,7 @@ impl Hart {
         (0, Ok(()))
     }
 
-    /// The step of a hart that goes on, with the word at the pc, whose instruction is put into the table where no store changes it.
+    /// A step, with the word at the pc, of a hart that goes on. The table gets its instruction if no store changes it.
     #[tactic(auto, unfolding(machine::specs::Step::step))]
     #[inline(never)]
     pub(crate) fn step_new(
@@ -267,7 +267,7 @@ impl Hart {
         self.look(image, window, more)
     }
 
-    /// The same, with a new window where `more` steps may follow.
+    /// The word at the pc, with a new window if `more` steps may follow.
     #[inline(never)]
     #[tactic(auto, using(crate::proofs::Fetching::fetched_grain))]
     fn look(&mut self, image: &mut Image, window: &mut Window, more: bool) -> Option<u32>
@@ -284,8 +284,8 @@ impl Hart {
         Some(word)
     }
 
-    /// A window on the code at the pc, a multiple of 4, where it stands on a page that may not be written, there is memory for it,
-    /// and `more` steps may follow.
+    /// A window on the code at the pc, a multiple of 4, if it stands on a page that may not be written, there is memory
+    /// for it, and `more` steps may follow.
     fn window(&self, image: &Image, more: bool) -> Window
         requires { self.now.pc % 4 ≡ 0 }
         ensures { IsWindow (with_memory self.now image.now).state result }

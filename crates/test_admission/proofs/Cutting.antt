@@ -88,7 +88,7 @@ follow-cut done low (p ∷ ps) s h e =
       | false ↦ λ l. follow-cut done p.start ps s.1 h.1 e
     ] refl
 
--- ---- the same addresses
+-- ---- addresses that stay
 none_before : (low q : ℕ) (ps : List Part) → Starts low ps → q < low → is_in_any (map span_of ps) q ≡ false
 none_before low q [] s lt = refl
 none_before low q (p ∷ ps) s lt =
@@ -118,7 +118,7 @@ in_any-cut q done low (p ∷ ps) s h =
       from e (inl lt) = absurd (false≢true (sym (none_before p.start q ps s.1 lt) ∙ e))
       from e (inr le) = le
 
--- ---- the same bytes
+-- ---- bytes that stay
 reads-trimmed : (ls : List LoadSegment) (done : ℕ) (p : Part) → Reads ls p → Reads ls (trimmed done p)
 reads-trimmed ls done p r = record {
   bytes = λ k lt.

@@ -86,7 +86,7 @@ module _ (word : ℕ → ℕ) (r : CodeRule) where
   fault_same : (p : Part) (k : ℕ) (b : Bool) → HasWords p → k < p.size / 4 → faults_at r p k ≡ b → is_at_fault r (p.start + 4 * k) (word (p.start + 4 * k)) ≡ b
   fault_same p k b w lt e = sym (ap (is_at_fault r (p.start + 4 * k)) (w k lt)) ∙ e
 
-  -- none of a part is
+  -- no word of a part is at fault
   none_part : (p : Part) (q : ℕ) → HasWords p → p.start % 4 ≡ 0 → p.size % 4 ≡ 0 → first (p.size / 4) (faults_at r p) ≡ None → q % 4 ≡ 0 → is_in (span_of p) q ≡ true → is_at_fault r q (word q) ≡ false
   none_part p q w a b e c h =
       let x = place_in p q a b c h in

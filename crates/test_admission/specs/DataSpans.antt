@@ -1,4 +1,4 @@
--- The data of a file, as it is told to the rules on data.
+-- The data of a file, as the rules on data see it.
 use Rattle.std.specs.Prelude.{◌≡◌, ℕ, List, map, filter}
 use Rattle.tests.specs.Admission.DataRanges.{is_executed, rounded, joined, data_ranges, Segment}
 use Rattle.tests.specs.declared.range.Span.{Span}

@@ -20,7 +20,8 @@ faults rule.Unknown a found = is_none found
 faults rule.Registers a found = is_some (high_in found)
 faults rule.Breakpoint a found = passes_at (λ i. is_ebreak i.kind) found
 faults (rule.Constant base) a found = passes_at (λ i. is_auipc i.kind && is_far (distance_between base (target i a))) found
-faults (rule.Any base) a found = is_none found || (is_some (high_in found) || (passes_at (λ i. is_ebreak i.kind) found || passes_at (λ i. is_auipc i.kind && is_far (distance_between base (target i a))) found))
+faults (rule.Any base) a found = is_none found || (is_some (high_in found) || (passes_at (λ i. is_ebreak i.kind) found
+    || passes_at (λ i. is_auipc i.kind && is_far (distance_between base (target i a))) found))
 
 abbrev pub is_at_fault : CodeRule → ℕ → ℕ → Bool
 is_at_fault r a word = faults r a (decode_of word)

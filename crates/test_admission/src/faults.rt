@@ -1,5 +1,5 @@
-//! The rules on code words, sought only where the file has a byte of the word: every other word is the zero word, which is at
-//! fault by none of them.
+//! The rules on code words, sought only where the file has a byte of the word. Every other word is the zero word, which
+//! breaks none of them.
 ghost use Rattle.std.specs.Prelude.{◌≡◌, ◌+◌, ◌^◌, ◌≤◌, None, All, IfSome, MatchOption, MatchResult, OnOk};
 ghost use Rattle.tests.specs.declared.options.Options.{Options};
 ghost use Rattle.machine.specs.Table.{decode_of};
@@ -63,8 +63,8 @@ fn first_high(code: &[Stretch<'_>]) -> Option<AdmitError>
     Some(AdmitError::RegisterHalf(address, register))
 }
 
-/// Tests the rules on code words, behind those on the shape of code. Constants are tested against a base. Where no rule refuses a word,
-/// each is decoded once.
+/// Tests the rules on code words, behind those on the shape of code. Constants are tested against a base. If no rule
+/// refuses a word, each is decoded once.
 #[tactic(auto, using(crate::proofs::Faulting::follow_fit, crate::proofs::Faulting::refused_unknown, crate::proofs::Faulting::refused_high, crate::proofs::Faulting::refused_break, crate::proofs::Faulting::refused_far, crate::proofs::Faulting::passes_code, crate::proofs::FirstFault::none_each))]
 pub fn check_code(file: &ElfFile, code: &[Stretch<'_>], base: u64) -> Result<(), AdmitError>
     requires code { AreCodeOf file.now (parts_of code.now) }

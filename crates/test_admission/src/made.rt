@@ -1,4 +1,4 @@
-//! A test that was admitted, as it is told.
+//! The test of a file that was admitted.
 ghost use Rattle.std.specs.Prelude.{◌≡◌, ◌++◌, None, map, IfOk};
 ghost use Rattle.tests.specs.Admission.Terms.{image_segments};
 ghost use Rattle.tests.specs.Admission.DataRanges.{range_of};
@@ -72,7 +72,7 @@ fn word_list(alloc: Global, file: &ElfFile, code: &[Stretch<'_>]) -> Result<Code
     Ok(Listed::of(words))
 }
 
-/// What is told of a file that was admitted.
+/// The facts of a file that was admitted.
 #[tactic(auto, using(crate::proofs::Ends::ranges_end, crate::proofs::Ends::spans_end))]
 pub fn make_test(
     alloc: Global,

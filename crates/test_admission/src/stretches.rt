@@ -30,7 +30,11 @@ impl<'a> Stretch<'a> {
         requires some { range.start < range.end }
         requires from { segment.now.address ≤ range.start }
         requires to { range.end ≤ segment.now.address + segment.now.memory }
-        ensures { part_of result ≡ record { start = range.start; size = range.end - range.start; bytes = drop (range.start - segment.now.address) segment.now.bytes } }
+        ensures { part_of result ≡ record {
+          start = range.start;
+          size = range.end - range.start;
+          bytes = drop (range.start - segment.now.address) segment.now.bytes;
+        } }
     {
         let (address, _memory) = (segment.address, segment.memory);
         Stretch {
@@ -75,7 +79,9 @@ fn holds(segment: &Segment, range: Span) -> bool
 
 /// The first such segment of type PT_LOAD.
 fn home<'a>(segments: &'a [Segment], range: Span) -> Option<&'a Segment>
-    ensures { MatchOption result (is_held (load_segments segments.now) (span range) ≡ false) (λ s. (is_held (load_segments segments.now) (span range) ≡ true) × Contains segments.now s.now × (s.now.kind ≡ 1) × (holds_code (span range) (load_segment s.now) ≡ true)) }
+    ensures { MatchOption result (is_held (load_segments segments.now) (span range) ≡ false) (λ s.
+        (is_held (load_segments segments.now) (span range) ≡ true) × Contains segments.now s.now
+        × (s.now.kind ≡ 1) × (holds_code (span range) (load_segment s.now) ≡ true)) }
 {
     for segment in segments {
         if segment.is_load() && holds(segment, range) {
@@ -90,7 +96,9 @@ fn home<'a>(segments: &'a [Segment], range: Span) -> Option<&'a Segment>
 fn stretch_of<'a>(segments: &'a [Segment], range: Span) -> Option<Stretch<'a>>
     requires read { AreRead (load_segments segments.now) }
     requires some { range.start < range.end }
-    ensures { MatchOption result (is_held (load_segments segments.now) (span range) ≡ false) (λ part. (is_held (load_segments segments.now) (span range) ≡ true) × (span_of (part_of part) ≡ span range) × Reads (load_segments segments.now) (part_of part)) }
+    ensures { MatchOption result (is_held (load_segments segments.now) (span range) ≡ false) (λ part.
+        (is_held (load_segments segments.now) (span range) ≡ true)
+        × (span_of (part_of part) ≡ span range) × Reads (load_segments segments.now) (part_of part)) }
 {
     let segment = home(segments, range)?;
     Some(Stretch::of(segment, range))

@@ -34,8 +34,8 @@ no_fault f o a error.Memory h = h
 pub not_refused : (f : ElfFile) (o : Options) (e : AdmitError) → IsAdmitted f o → IsRefusedBy f o e → ⊥
 not_refused f o e a r = no_fault f o a e r.fault
 
--- ---- a test of which no rule holds is admitted
--- where no number is the first that passes, none passes
+-- ---- a test without a rule that holds is admitted
+-- if no number is the first that passes, none passes
 none_first : (n : ℕ) (test : ℕ → Bool) → ((i : ℕ) → IsFirstBelow n test i → ⊥) → (j : ℕ) → j < n → test j ≡ false
 none_first n test h j lt = by (first n test) refl where
   by : (found : Option ℕ) → first n test ≡ found → test j ≡ false

@@ -1,4 +1,4 @@
--- The data ranges: what joins ranges gives the ranges that the sentences on them describe, and there is one list of such ranges.
+-- The data ranges: joining gives the ranges that the sentences on them describe, and there is one such list.
 use Rattle.std.proofs.Common.{◌≡◌, ◌⊎◌, inl, inr, ⊎_elim, ℕ, suc, ◌+◌, ◌%◌, ◌<◌, ◌≤◌, min, max, Bool, true, false, cond, ◌&&◌, ◌||◌, List, [], ◌∷◌, get_or, refl, sym, ap, ◌∙◌, subst, arith}
 use Rattle.std.specs.Prelude.{nat_lt, nat_le, All, AllPairs, map, filter}
 use Rattle.std.proofs.Math.Bool.{or_assoc}
@@ -52,7 +52,7 @@ aligned-join r (t ∷ ts) a b h =
       ]
     ]
 
--- and the addresses
+-- joining keeps the addresses
 or_swap : (a b c : Bool) → (b || (a || c)) ≡ (a || (b || c))
 or_swap true true c = refl
 or_swap true false c = refl
@@ -172,7 +172,7 @@ first_from low r rs ts some s same =
       by : (b : Bool) → nat_le low r.0 ≡ b → (m : ℕ × ℕ) → (low ≤ m.0) × (m.0 < m.1) → (m.0 ≤ r.0) × (r.0 < m.1) → low ≤ r.0
       by b e m f i = omega (arith, f.0, i.0)
 
--- and ends no later
+-- the first of two lists with the same addresses ends no later
 first_to : (a b c : ℕ) (rs ts : List (ℕ × ℕ)) → a < c → Spaced (b + 1) rs → ((q : ℕ) → is_in_any ((a, b) ∷ rs) q ≡ is_in_any ((a, c) ∷ ts) q) → a < b → c ≤ b
 first_to a b c rs ts some s same ab =
     by (nat_lt b c) refl where

@@ -1,4 +1,4 @@
--- Where the rule on high registers does not hold of an instruction of the table, its fields have no number above 13, but for a FENCE.
+-- If the rule on high registers does not hold of an instruction of the table, its fields are at most 13, but for FENCE.
 use Rattle.std.proofs.Common.{◌≡◌, ℕ, zero, suc, ◌≤◌, Bool, true, false, not, ◌&&◌, cond, Option, Some, None, refl, sym, ap, ◌∙◌, arith}
 use Rattle.std.specs.Prelude.{nat_lt}
 use Rattle.std.specs.Option.{option_or}

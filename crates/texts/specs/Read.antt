@@ -23,7 +23,7 @@ equals = 61
 abbrev pub letter_x : ℕ
 letter_x = 120
 
--- the number n with the digits of a text behind it; None where one is no digit, or from 2^64 on
+-- the number n with the digits of a text behind it; None if one is not a digit, or from 2^64 on
 abbrev pub read_on : ℕ → ℕ → List ℕ → Option ℕ
 read_on base n [] = Some n
 read_on base n (c ∷ cs) =

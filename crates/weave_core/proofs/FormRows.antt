@@ -1,4 +1,4 @@
--- The forms of the code are a weave: they meet the laws of the rows and of the entry, so the promises follow from those of any weave.
+-- The forms of the code are a weave: by the laws of rows and entry the promises follow from those of any weave.
 use Rattle.std.proofs.Common.{◌≡◌, ℕ, zero, suc, ◌+◌, ◌*◌, ◌%◌, ◌^◌, ◌<◌, ◌≤◌, inl, inr, ⊎_elim, Bool, true, false, cond, List, [], ◌∷◌, ◌++◌, length, take, drop, refl, sym, ap, ◌∙◌, subst, arith, append_assoc, ◌-◌}
 use Rattle.std.specs.Prelude.{pos, slice_set}
 use Rattle.std.proofs.lemmas.Bool.{false≢true, and_parts, and_from, leb-true, ne_eqb, eq-eqb, eqb-true}
@@ -134,7 +134,7 @@ fewer_front (i ∷ is) zero l = let h = one (is_auipc i.kind) in omega (arith, h
   one false = omega arith
 fewer_front (i ∷ is) (suc n) l = let h = fewer_front is n (omega (arith, l)) in omega (arith, h)
 
--- behind the first n instructions of a run the original half has made n steps, in fewer than all original parts have, whatever stands behind them
+-- behind n instructions of a run the original half made n steps, fewer than all original parts have, whatever follows
 pub front_row :
     (w : World) (is : List Ins) (n : ℕ) (u s : State) (tail : List Item) → n < length is → AllFit is → is_run is ≡ true → HasAt w.source s.pc is
     → At w u (each_part original is s.pc ++ tail) s s → Sourced w s → NotTrapped (run s n) → GoesTo w u n (3 * n) (λ k x. Inside w u s n k x × (k < cost_each original_cost is))
@@ -448,13 +448,13 @@ form_guarded w most checks first steps = record {
       ap (λ s. s.outcome) all ∙ step-break y o.going (o.code (v.pc + 8 + 4) ∙ h.2.1.0);
 }
 
--- and its jumps land
+-- in a plan of a form jumps land
 pub plan_landed : PlanLanded
 plan_landed f g w most blocks entries p law known =
     subst (λ n. LandedInStep 4 f g w.reached entries (start_of w.form) n) (omega arith)
     (weave_landed f g w (weave_of w.form most) blocks entries p (form_rows w most (begins_at blocks) law).rows (form_starts w most (begins_at blocks) f g) (form_guarded w most (both w most) 0 (both_steps w most)) known)
 
--- and so they do wherever the entries stand
+-- jumps land wherever the entries stand
 pub landings_fire : LandingsFire
 landings_fire f g w leader most entries x law known =
     subst (λ n. LandedInStep 4 f g w.reached entries (start_of w.form) n) (omega arith)

@@ -1,4 +1,4 @@
--- Where an entry and a leave lead, the latter by the kind of its end: the laws of their passes, from which follow those of a weave.
+-- Where an entry and a leave of each kind lead: the laws of their passes, from which follow those of a weave.
 use Rattle.std.proofs.Common.{◌≡◌, ℕ, ◌+◌, ◌%◌, ◌^◌, ◌<◌, ◌≤◌, inr, ⊎_elim, Bool, true, false, List, [], ◌∷◌, ◌++◌, length, refl, sym, ap, ◌∙◌, subst, arith, append_assoc}
 use Rattle.rv_isa.specs.declared.class.Class.TheVariants as class
 use Rattle.rv_isa.proofs.RegsLaws.{slice_index-set_reg_other}

@@ -41,7 +41,7 @@ pub never_mirrors : (next : ℕ → ℕ) (cost : Ins → ℕ) (is : List Ins) (a
 never_mirrors next cost is at w v z n l = never_each next cost GivesMirror LeavesMirror (λ i at w v n z l. l) is at w v z n l
 
 -- ---- the checks of a piece
--- what a pass behind the parts needs, gives and leaves: it needs no more than that both halves are equal and the cursor is at a word, and does not leave
+-- a pass behind the parts needs at most equal halves and the cursor at a word, gives the checks, and never leaves
 pub record AreChecks (w : World) (needs : World → Views → Type 0) (gives leaves : World → Views → ℕ → Views → Type 0) (first round : ℕ) : Type 0 where
   pub ready : (v : Views) → v.original ≡ v.shadow → IsCursor w.form.spans (reg v.now CURSOR) → needs w v
   pub checks : (v z : Views) (n : ℕ) → gives w v n z → Checks w first round v n z

@@ -34,7 +34,7 @@ WeaveKept =
     (f g : Program) (w : World) (v : Weave) (blocks : List Block) → PlanOf f g w v blocks → Rows w v (begins_at blocks)
     → Starts f g w v (begins_at blocks) → Kept f g w.reached (start_steps v) (stage_steps v)
 
--- and with those of the entry a jump to a wrong entry fires
+-- with the laws of the rows and the entry a jump to a wrong entry fires
 abbrev pub WeaveLanded : Type 0
 WeaveLanded =
     (f g : Program) (w : World) (v : Weave) (blocks : List Block) (entries : List EntryRow) → PlanOf f g w v blocks → Rows w v (begins_at blocks)
@@ -54,7 +54,7 @@ pub record BoundsOf (w : World) (v : Weave) (bounds : Bounds) : Type 0 where
   pub register : bounds.register ≡ register_bound (start_steps v) (stage_steps v)
   pub word : bounds.word ≡ word_bound (word_count w.form.spans) v.round (start_steps v) (stage_steps v)
 
--- and with those of the words changes are caught
+-- with the laws of the rows and the words changes are caught
 abbrev pub WeaveCaught : Type 0
 WeaveCaught =
     (f g : Program) (w : World) (v : Weave) (blocks : List Block) (bounds : Bounds) → PlanOf f g w v blocks → CheckedRows w v (begins_at blocks)
@@ -62,7 +62,7 @@ WeaveCaught =
     → 2 ≤ v.leave_steps → v.compare_steps + 17 ≤ v.piece_steps
     → BoundsOf w v bounds → CaughtInStep f g w.reached w.form.spans bounds (start_steps v) (stage_steps v)
 
--- and with the sweep no change before it is silent at the end
+-- with the sweep no change before it is silent at the end
 abbrev pub WeaveClean : Type 0
 WeaveClean =
     (f g : Program) (w : World) (v : Weave) (blocks : List Block) → PlanOf f g w v blocks → CheckedRows w v (begins_at blocks)

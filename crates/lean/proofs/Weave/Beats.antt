@@ -27,7 +27,7 @@ use Rattle.lean.proofs.Weave.Left.{lean_rows}
 use Rattle.lean.proofs.Weave.Rows.{AtCheck, checks}
 
 module _ (f g : Program) (w : World) (l : Lean) (leader : ℕ → Bool) (x : LeanIn w l leader) (of : Describes f g w) (entries : EntriesAt w (weave_of w l leader) leader) (counts : Counts w l leader entries) (leads : leader f.entry ≡ true) (ticked : l.ticks f.entry ≡ true) (begins : Reads w.form.far w.code w.entry g.entry (begin w.distance f.entry)) where
-  -- from a call of the check to the next, to behind its comparison with four steps left, and what runs before the end besides
+  -- from a call of the check to the next, to behind its comparison with four steps left, and the run before the end
   abbrev pub sizes : Sizes
   sizes = record { piece = check_steps w + (l.every + entry_steps l.land + call_steps l.land); check = 20; last = 2 + swept_steps w; words = word_count w.form.spans; round = round_of (word_count w.form.spans) w.form.round }
 

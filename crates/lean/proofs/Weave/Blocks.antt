@@ -1,5 +1,5 @@
--- The blocks of a test with entries where a jump by register can lead: each begins behind the words of those before it. So an address and the kind of an end tell
--- a block, and where one goes on at a leader, the next begins.
+-- The blocks of a test with entries where a jump by register can lead: each begins behind the words of those before it.
+-- So an address and the kind of an end determine a block, and one that goes on at a leader is followed by the next.
 use Rattle.std.proofs.Common.{◌≡◌, ℕ, ◌+◌, ◌-◌, ◌*◌, ◌/◌, ◌%◌, ◌^◌, ◌<◌, ◌≤◌, inl, inr, ⊎_elim, Bool, true, false, cond, List, [], ◌∷◌, length, refl, sym, ap, ◌∙◌, subst, arith}
 use Rattle.std.specs.Prelude.{◌==◌, ◌&&◌}
 use Rattle.std.proofs.lemmas.Bool.{and_parts, cases_lt, eq-eqb, eqb-true, false≢true, or_cases, or_left, or_right}

@@ -33,7 +33,7 @@ module _ (w : World) (l : Lean) (leader : ℕ → Bool) (x : LeanIn w l leader) 
   abbrev v : Weave
   v = weave_of w l leader
 
-  -- the test has ended, in so many steps at most, and those of the sweep
+  -- the test has ended, in at most `most` steps and those of the sweep
   pub record Finished (u : State) (most : ℕ) : Type 0 where
     pub steps : ℕ
     pub to : State
@@ -175,7 +175,7 @@ module _ (w : World) (l : Lean) (leader : ℕ → Bool) (x : LeanIn w l leader) 
           both m a c h = omega (arith, h)
 
   -- ---- block after block
-  -- what is asked of the begin of a block: so many steps may be counted before the count passes 2047
+  -- what is asked of the begin of a block: `room` steps may be counted before the count passes 2047
   pub record Begins (u s : State) (room off : ℕ) : Type 0 where
     pub stands : Stands w leader u s
     pub sourced : Sourced w s
@@ -216,7 +216,7 @@ module _ (w : World) (l : Lean) (leader : ℕ → Bool) (x : LeanIn w l leader) 
       room_most : room ≤ 2047
       room_most = let h = b.most in let k = x.few in omega (arith, h, k)
 
-      -- behind the entry, where so many steps may be counted
+      -- behind the entry, from which `room` steps may be counted
       pub record Passed : Type 0 where
         pub steps : ℕ
         pub count : ℕ
@@ -316,7 +316,7 @@ module _ (w : World) (l : Lean) (leader : ℕ → Bool) (x : LeanIn w l leader) 
     abbrev pub calling : ℕ
     calling = entry_steps l.land + call_steps l.land
 
-    -- the same from a later entry
+    -- to the check or the end, from a later entry
     abbrev Rest : ℕ → ℕ → Type 0
     Rest fuel off = (y t : State) (n : ℕ) → Begins y t n off → suc (ahead t n) ≤ fuel → Feeds w y t (ahead t n + 1) → Called y t off (ahead t n + calling) ⊎ Finished y (ahead t n)
 

@@ -150,7 +150,7 @@ offset_near w (r ∷ rs) n off good low small few c =
       low_word (inr h) = let k = word_low rs (r.1 + 1) (words_on (r ∷ rs) n (r.0 + off)) good.1 h in omega (arith, k, good.0.some)
 
 -- ---- all of it
--- back at the entry of a, where the count begins again and the offset is at the next word; all registers were compared, and a round of words was visited
+-- back at the entry of a, with a new count and the next word's offset; all registers were compared, a round was visited
 pub record Back (w : World) (leader : ℕ → Bool) (u t : State) (a off every round : ℕ) : Type 0 where
   pub steps : ℕ
   pub to : State

@@ -1,4 +1,4 @@
--- The leave of an ECALL: all registers, the distance and the signature are compared, with the sweep all data words and once more all registers, and the test ends.
+-- The leave of an ECALL: compares registers, distance and signature, with the sweep all data and registers again; ends.
 use Rattle.std.proofs.Common.{◌≡◌, ℕ, ◌+◌, ◌^◌, ◌<◌, ◌≤◌, ⊎_elim, Bool, true, false, cond, List, [], ◌∷◌, ◌++◌, length, refl, sym, ap, ◌∙◌, subst, arith}
 use Rattle.std.proofs.lemmas.Bool.{false≢true}
 use Rattle.std.proofs.lemmas.List.{append-nil}

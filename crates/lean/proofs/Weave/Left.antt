@@ -30,7 +30,7 @@ module _ (w : World) (l : Lean) (leader : ℕ → Bool) (x : LeanIn w l leader) 
   abbrev v : Weave
   v = weave_of w l leader
 
-  -- where a leave leads, in at most so many steps
+  -- where a leave leads, in at most `most` steps
   abbrev pub Parts : State → State → ℕ → ℕ → (ℕ → Bool) → Type 0
   Parts u t least most on = GoesTo w u 1 (most + swept_steps w) (λ n y. Ends w t y × Sweeps w u n) ⊎ Went w leader u t least most × (on t.pc ≡ true)
 

@@ -1,4 +1,4 @@
--- A piece: runs of instructions that do not store, of each its original parts and then its mirror parts, and stores in both halves between them.
+-- A piece: runs of instructions that do not store, original parts before mirror parts, and stores in both halves.
 use Rattle.std.proofs.Common.{◌≡◌, ℕ, ◌+◌, ◌-◌, ◌*◌, ◌<◌, ◌≤◌, ⊎_elim, Bool, true, false, cond, List, [], ◌∷◌, ◌++◌, length, refl, sym, ap, ◌∙◌, subst, arith, append_assoc, length-append}
 use Rattle.std.specs.Prelude.{◌==◌, ◌||◌}
 use Rattle.std.proofs.lemmas.Bool.{and_parts, cases_lt, false≢true}

@@ -1,4 +1,4 @@
--- A plan of the lean form keeps the values, its code is calm, by its trace changes are caught, and with the sweep none is silent at the end.
+-- A plan of the lean form keeps the values, its code is calm, changes are caught, and the sweep leaves none silent.
 use Rattle.std.proofs.Common.{◌≡◌, ℕ, zero, suc, ◌+◌, ◌*◌, ◌^◌, ◌<◌, ◌≤◌, ⊎_elim, Bool, true, false, List, [], ◌++◌, length, Some, refl, sym, ap, ◌∙◌, subst, arith, append_assoc, length-append}
 use Rattle.qed_model.specs.declared.bounds.Bounds.{Bounds}
 use Rattle.tests.specs.Admission.DataRanges.{word_count}
@@ -213,7 +213,7 @@ module _ (f g : Program) (w : World) (l : Lean) (blocks : List Block) (p : LeanP
     pub catches : CaughtInStep f g w.reached w.form.spans bounds before per
     catches = caught_of f g w before per bounds calm catches_all
 
-    -- so are wrong results, as changes
+    -- wrong results are caught, as changes
     pub finds : FaultsFound f g w.reached w.form.spans bounds before per
     finds = faults_found f g w before per bounds calm (omega (arith, are.register)) (λ b e. wide (word_count w.form.spans) b (sym are.word ∙ e)) catches_all where
       wide : (n b : ℕ) → word_bound l.land n w.form.round (swept_steps w) (period l.land (check_steps w) l.every) ≡ Some b → 2 ≤ b

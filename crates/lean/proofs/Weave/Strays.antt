@@ -1,4 +1,4 @@
--- A jump that goes astray into a block with another signature: the pieces end in the leave, which turns the signature to where it leads, and the test there fires.
+-- A jump that strays into a block with another signature: the leave turns that to where it leads; the test there fires.
 use Rattle.std.proofs.Common.{◌≡◌, ℕ, zero, suc, ◌+◌, ◌*◌, ◌/◌, ◌%◌, ◌^◌, ◌<◌, ◌≤◌, ◌⊎◌, inl, inr, ⊎_elim, Bool, true, false, cond, List, [], ◌∷◌, ◌++◌, length, refl, sym, ap, ◌∙◌, subst, arith, append_assoc}
 use Rattle.std.specs.Prelude.{◌==◌, ◌-◌, pos, neg_ℤ, slice_index, slice_set}
 use Rattle.std.proofs.lemmas.Bool.{and_parts, eqb-true, ne_eqb, cases_eq}

@@ -1,4 +1,4 @@
--- The lean form of an admitted test: all of it has words, where it has no more bytes than a JAL spans; it is a plan, and so are the promises over tests.
+-- The lean form of an admitted test: within a JAL's reach all of it has words; it is a plan that keeps the promises.
 use Rattle.std.proofs.Common.{◌≡◌, ℕ, ◌+◌, ◌*◌, ◌%◌, ◌^◌, ◌<◌, ◌≤◌, Bool, true, false, List, [], ◌∷◌, ◌++◌, length, Some, refl, sym, ap, ◌∙◌, subst, arith, append_assoc, length-append, ◌-◌, inl, inr}
 use Rattle.std.specs.Prelude.{map, All, pos, unwrap_or}
 use Rattle.std.proofs.lemmas.Bool.{and_from, eq-eqb, false≢true}

@@ -46,7 +46,7 @@ pub data GivesAny (i : Ins) (u v : State) : Type 0 where
   gives : (x : ℕ) → v ≡ moved (set_reg i.rd x u.regs) (next_pc u) u → GivesAny i u v
   skips : v ≡ moved u.regs (next_pc u) u → GivesAny i u v
 
--- the same of a store
+-- a store that stores any number at its place, or is skipped
 pub data StoresAny (i : Ins) (u v : State) : Type 0 where
   stores : (x : ℕ) → v ≡ stored (put u.memory (place i u) (width_of i.kind) x) (next_pc u) u → StoresAny i u v
   leaves : v ≡ moved u.regs (next_pc u) u → StoresAny i u v
@@ -61,14 +61,17 @@ abbrev pub misled : Ins → State → State
 misled i u = other_way (holds i.kind (reg u i.rs1) (reg u i.rs2)) i u
 
 -- ---- the promise
--- wherever the output's run without faults goes on at such an instruction, as long as the input is steady for the steps that are made of it
+-- wherever the output's run without faults goes on at such an instruction, with the input as steady as `Covers` asks
 pub record FaultsFound (f g : Program) (reached : ℕ → Bool) (spans : List (ℕ × ℕ)) (bounds : Bounds) (first bound : ℕ) : Type 0 where
   pub results :
-      (regs : List ℕ) (n : ℕ) (i : Ins) (v : State) → AreStartRegs regs → (after_output g regs n).outcome ≡ Going → next (after_output g regs n) ≡ Known i → WritesOriginal i
-      → GivesAny i (after_output g regs n) v → Covers f g reached first bound regs (n + 1 + bounds.register) → SettlesWithin spans 0 bounds.register (run v) (λ k. after_output g regs (n + 1 + k))
+      (regs : List ℕ) (n : ℕ) (i : Ins) (v : State) → AreStartRegs regs → (after_output g regs n).outcome ≡ Going
+      → next (after_output g regs n) ≡ Known i → WritesOriginal i
+      → GivesAny i (after_output g regs n) v → Covers f g reached first bound regs (n + 1 + bounds.register)
+      → SettlesWithin spans 0 bounds.register (run v) (λ k. after_output g regs (n + 1 + k))
   pub stores :
       (regs : List ℕ) (n b : ℕ) (i : Ins) (v : State) → AreStartRegs regs → (after_output g regs n).outcome ≡ Going → next (after_output g regs n) ≡ Known i
-      → StoresOriginal spans i (after_output g regs n) → StoresAny i (after_output g regs n) v → bounds.word ≡ Some b → Covers f g reached first bound regs (n + 1 + b)
+      → StoresOriginal spans i (after_output g regs n) → StoresAny i (after_output g regs n) v → bounds.word ≡ Some b
+      → Covers f g reached first bound regs (n + 1 + b)
       → SettlesWithin spans 0 b (run v) (λ k. after_output g regs (n + 1 + k))
   -- a comparison that goes wrong stands before its EBREAK
   pub comparisons : (regs : List ℕ) (n : ℕ) (i : Ins) → (misled i (after_output g regs n)).outcome ≡ Going → next (misled i (after_output g regs n)) ≡ ebreak → Fires 1 (misled i (after_output g regs n))

@@ -1,5 +1,5 @@
--- What the output file of any test holds: segments, sections and symbols, made of those of the input. Names and numbers are those of
--- the ELF gABI.
+-- What the output of any test holds: segments, sections and symbols, made of those of the input. Names and numbers are
+-- those of the ELF gABI.
 use Rattle.std.specs.Prelude.{ℕ, ◌+◌, ◌-◌, ◌*◌, ◌/◌, max, Bool, false, nat_lt, not, if◌then◌else◌, Option, Some, None, List, [], ◌∷◌, ◌++◌, length, map, filter, flat_map, codes}
 use Rattle.std.specs.List.{list_any}
 use Rattle.elf_types.specs.declared.output.OutFile.{OutFile}
@@ -97,7 +97,13 @@ file_segments d image code_at table rows code = halves d image ++ ((if table the
 
 -- over the table, with SHF_ALLOC
 abbrev pub table_section : ℕ → List EntryRow → OutSection
-table_section d rows = record { name = codes ".qed.table"; flags = SHF_ALLOC; address = first_input rows + 2 * d; size = length (table_bytes d rows); bytes = [] }
+table_section d rows = record {
+  name = codes ".qed.table";
+  flags = SHF_ALLOC;
+  address = first_input rows + 2 * d;
+  size = length (table_bytes d rows);
+  bytes = [];
+}
 
 abbrev pub file_sections : ℕ → ℕ → Bool → List EntryRow → List ℕ → List OutSection
 file_sections d code_at table rows code = text_section code_at code ∷ ((if table then table_section d rows ∷ [] else []) ++ map_section rows ∷ [])
@@ -116,8 +122,8 @@ file_of f half table rows code =
       symbols = out_symbols rows f.symbols;
     }
 
--- ---- what is told of the pieces
--- of those of a block, from an input address on; an empty piece stands at the end
+-- ---- the rows of the plan for pieces
+-- of a block, from an input address on; an empty piece stands at the end
 abbrev pub rows_of_pieces : ℕ → ℕ → List (List Ins) → List PieceRow
 rows_of_pieces entry at [] = []
 rows_of_pieces entry at (p ∷ ps) = record { entry = entry; first = at; length = length p } ∷ rows_of_pieces entry (at + 4 * length p) ps

@@ -24,7 +24,8 @@ IsLeast test a = IsFirstBelow (2 ^ 64) test a
 abbrev pub IsMisshapen : ElfFile → ℕ → Type 0
 IsMisshapen f i =
     IsFirstOf f.sections (is_misshapen_section (loads_of f)) i
-    ⊎ (((k : ℕ) → k < length f.sections → passes_at (is_misshapen_section (loads_of f)) (slice_get f.sections k) ≡ false) × IsFirstOf f.segments (is_misshapen_segment f) i)
+    ⊎ (((k : ℕ) → k < length f.sections → passes_at (is_misshapen_section (loads_of f)) (slice_get f.sections k) ≡ false)
+    × IsFirstOf f.segments (is_misshapen_segment f) i)
 
 -- the code words, which are too many
 pub record HasTooManyWords (f : ElfFile) (n : ℕ) : Type 0 where
@@ -33,7 +34,7 @@ pub record HasTooManyWords (f : ElfFile) (n : ℕ) : Type 0 where
   pub count : n ≡ length addresses
   pub over : limit_of limit.CodeWords < n
 
--- the rule that an error names holds, with the place or number that it carries; want of memory is no rule
+-- the rule that an error names holds, with the place or number that it carries; want of memory is not a rule
 abbrev pub HasFault : ElfFile → Options → AdmitError → Type 0
 HasFault f o error.Compressed = is_compressed f ≡ true
 HasFault f o error.Dynamic = is_dynamic f.segments ≡ true

@@ -1,4 +1,4 @@
--- The file that is written: its parts in their order, and where each of them stands. Names are those of the ELF gABI; offsets are in bytes from the file's first.
+-- The written file: its parts in order, and their places. Names are of the ELF gABI; offsets are in bytes from 0.
 use Rattle.std.specs.Prelude.{◌≡◌, ◌≢◌, ℕ, ◌+◌, ◌-◌, ◌*◌, ◌/◌, ◌^◌, ◌<◌, ◌≤◌, ◌==◌, Bool, true, false, nat_le, ◌&&◌, if◌then◌else◌, IsTrue, List, [], ◌∷◌, ◌++◌, length, map, replicate, All, AllPairs}
 use Rattle.std.specs.List.{list_any}
 use Rattle.elf_types.specs.declared.file.Segment.{Segment}
@@ -95,7 +95,7 @@ is_in_memory x = has_alloc x.flags
 abbrev pub is_inside : OutSection → Segment → Bool
 is_inside x s = nat_le s.address x.address && nat_le (x.address + x.size) (s.address + length s.bytes)
 
--- where a section in memory stands in the file: its address, measured from the first segment that it lies inside. The segments' bytes are sought from `at` on
+-- the place in the file of a section in memory, by the first segment around it; segments' bytes are sought from `at` on
 abbrev pub offset_in : ℕ → List Segment → OutSection → ℕ
 offset_in at [] x = 0
 offset_in at (s ∷ segments) x =
@@ -124,7 +124,7 @@ abbrev pub headers_bytes : List SectionHeader → List ℕ
 headers_bytes [] = []
 headers_bytes (h ∷ headers) = header_bytes h ++ headers_bytes headers
 
--- the header, of type SHT_PROGBITS, of a section whose name begins at an offset of the names and whose bytes stand at an offset of the file
+-- the SHT_PROGBITS header of a section, with the offsets of its name among the names and of its bytes in the file
 abbrev pub header_with : ℕ → ℕ → OutSection → SectionHeader
 header_with name offset x = record {
   name = name;
@@ -138,7 +138,7 @@ header_with name offset x = record {
   entsize = 0;
 }
 
--- the headers of the given sections: names stand from `name` on, own bytes from `own` on, the bytes of the segments are sought from `start` on
+-- the headers of given sections: names from `name` on, own bytes from `own` on, segments' bytes sought from `start` on
 abbrev pub headers_from : ℕ → List Segment → ℕ → ℕ → List OutSection → List SectionHeader
 headers_from start segments name own [] = []
 headers_from start segments name own (x ∷ sections) =
@@ -175,7 +175,7 @@ own_place f = end_from (start_of f) f.segments
 unfoldable pub symbols_place : OutFile → ℕ
 symbols_place f = aligned (own_place f + length (own_bytes f.sections))
 
--- its string table
+-- the string table of the symbols
 unfoldable pub strings_place : OutFile → ℕ
 strings_place f = symbols_place f + 24 * (1 + length f.symbols)
 
@@ -192,7 +192,7 @@ headers_place f = aligned (names_place f + length (string_table (section_names f
 abbrev pub table_names_at : OutFile → ℕ
 table_names_at f = length (string_table (map (λ x. x.name) f.sections))
 
--- ".symtab": its strings are those of the next section; its info is the number of the first symbol that is not STB_LOCAL
+-- ".symtab": its strings are the next section's; its info is the number of the first symbol that is not STB_LOCAL
 abbrev pub symtab_header : OutFile → SectionHeader
 symtab_header f =
     table_header (table_names_at f) SHT_SYMTAB (symbols_place f) (24 * (1 + length f.symbols)) (length f.sections + 2) (first_global 1 f.symbols) 24
@@ -212,15 +212,15 @@ table_headers f = symtab_header f ∷ strtab_header f ∷ shstrtab_header f ∷ 
 unfoldable pub headers_of : OutFile → List SectionHeader
 headers_of f = null_header ∷ (headers_from (start_of f) f.segments 1 (own_place f) f.sections ++ table_headers f)
 
--- magic, class, encoding, version, padding; type, machine, version, entry, phoff, shoff, flags; ehsize, phentsize, phnum;
--- shentsize, shnum, shstrndx
+-- magic, class, encoding, version, padding; type, machine, version, entry, phoff, shoff, flags; ehsize, phentsize,
+-- phnum; shentsize, shnum, shstrndx
 abbrev pub file_fields : ℕ → ℕ → ℕ → ℕ → ℕ → List (ℕ × ℕ)
 file_fields entry flags segments headers sections =
     (4, ELFMAG) ∷ (1, ELFCLASS64) ∷ (1, ELFDATA2LSB) ∷ (1, EV_CURRENT) ∷ (1, 0) ∷ (8, 0)
     ∷ (2, ET_EXEC) ∷ (2, EM_RISCV) ∷ (4, EV_CURRENT) ∷ (8, entry) ∷ (8, 64) ∷ (8, headers) ∷ (4, flags)
     ∷ (2, EHDR_SIZE) ∷ (2, PHDR_SIZE) ∷ (2, segments) ∷ (2, SHDR_SIZE) ∷ (2, sections + 4) ∷ (2, sections + 3) ∷ []
 
--- its bytes
+-- the bytes of the file header
 abbrev pub file_header : OutFile → List ℕ
 file_header f = fields_bytes (file_fields f.entry f.flags (length f.segments) (headers_place f) (length f.sections))
 
@@ -258,7 +258,7 @@ do_share s t = share_byte s.address s.memory t.address t.memory
 abbrev pub IsName : List ℕ → Type 0
 IsName name = All (λ byte. byte ≢ 0) name
 
--- a section in memory has no bytes of its own, and lies inside the file bytes of a segment; any other section has its bytes
+-- a section in memory has no bytes of its own, and lies inside a segment's file bytes; any other section has its bytes
 pub record IsPlaced (segments : List Segment) (x : OutSection) : Type 0 where
   pub none : is_in_memory x ≡ true → x.bytes ≡ []
   pub inside : is_in_memory x ≡ true → IsTrue (list_any (is_inside x) segments)

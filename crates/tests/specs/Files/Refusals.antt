@@ -37,7 +37,7 @@ IsOut file part.SectionTable = (0 < e_shnum file) × (length file < e_shoff file
 IsOut file (part.Segment i) = IsFirstBelow (e_phnum file) (λ k. is_segment_outside file (program_header file k)) i
 IsOut file (part.Section i) = IsFirstBelow (e_shnum file) (λ k. is_section_outside file (section_header file k)) i
 
--- segments i and j share a byte, i below j: no segment before i shares one with a later one, and none between them with i
+-- segments i < j share a byte: no segment before i shares one with a later one, and none between them with i
 pub record IsFirstOverlap (file : List ℕ) (i j : ℕ) : Type 0 where
   pub pair : IsFirstBelow (e_phnum file) (λ k. nat_lt i k && do_overlap (program_header file i) (program_header file k)) j
   pub least : (h k : ℕ) → h < i → h < k → k < e_phnum file → do_overlap (program_header file h) (program_header file k) ≡ false
@@ -79,7 +79,7 @@ HasFault file (error.TooManySections count) = (count ≡ e_shnum file) × (limit
 HasFault file (error.TooManyBytes count) = (count ≡ min (counted_bytes file) (2 ^ 64 - 1)) × (limit_of limit.CountedBytes < counted_bytes file)
 HasFault file error.Memory = ⊥
 
--- the error names the first rule that refuses the file, or else the first limit that it exceeds, and its fault is in the file
+-- the error names the first rule that refuses the file, or else the first limit it exceeds; its fault is in the file
 pub record IsRefused (file : List ℕ) (e : ElfError) : Type 0 where
   pub first : read_verdict file ≡ Err e
   pub fault : HasFault file e

@@ -1,4 +1,4 @@
--- The rules by which a file is refused, each a sentence on its bytes, and the first of them that holds. Sums do not wrap. The sources are the ELF gABI and the RISC-V ELF psABI.
+-- The rules that refuse a file, sentences on its bytes, and the first that holds (ELF gABI, psABI). Sums do not wrap.
 use Rattle.std.specs.Prelude.{◌≡◌, ℕ, ◌+◌, ◌-◌, ◌*◌, ◌/◌, ◌%◌, ◌^◌, ◌<◌, ◌==◌, nat_lt, nat_le, min, Bool, false, ◌&&◌, ◌||◌, not, if◌then◌else◌, Option, Some, None, Result, Ok, Err, List, [], ◌∷◌, length, take, drop, slice_index}
 use Rattle.std.specs.Option.{is_some, unwrap_or}
 use Rattle.elf_types.specs.declared.error.ElfError.{ElfError}
@@ -64,7 +64,8 @@ encoding_rule file = refuse (error.Encoding (e_encoding file)) (not (e_encoding 
 -- EV_CURRENT, in the identification and in the header
 unfoldable pub version_rule : List ℕ → Check
 version_rule file =
-    if e_ident_version file == EV_CURRENT then refuse (error.Version (e_version file)) (not (e_version file == EV_CURRENT)) else Err (error.Version (e_ident_version file))
+    if e_ident_version file == EV_CURRENT then refuse (error.Version (e_version file)) (not (e_version file == EV_CURRENT))
+    else Err (error.Version (e_ident_version file))
 
 -- ET_EXEC
 unfoldable pub file_type_rule : List ℕ → Check
@@ -103,7 +104,7 @@ header_rules file =
 
 -- ---- the parts that lie in the file
 
--- so many bytes from a place on end past the end of the file
+-- n bytes from a place on end past the end of the file
 abbrev pub is_past : List ℕ → ℕ → ℕ → Bool
 is_past file place size = nat_lt (length file) (place + size)
 
@@ -177,12 +178,13 @@ name_at strings place = if place == 0 then [] else take (unwrap_or (name_length 
 abbrev pub names_header : List ℕ → SectionHeader
 names_header file = section_header file (e_shstrndx file)
 
--- section i is in memory and ends past 2^64; or should hold the names, and is no string table; or its name has no end
+-- section i in memory ends past 2^64; or it should hold the names, but is not a string table; or its name has no end
 unfoldable pub is_section_misshapen : List ℕ → ℕ → Bool
 is_section_misshapen file i =
     (has_alloc (section_header file i).flags && nat_lt (2 ^ 64) ((section_header file i).addr + (section_header file i).size))
     || (not (e_shstrndx file == 0) && i == e_shstrndx file && not (is_string_table (section_header file i).kind))
-    || (not (e_shstrndx file == 0) && is_string_table (names_header file).kind && is_unended (section_bytes file (names_header file)) (section_header file i).name)
+    || (not (e_shstrndx file == 0) && is_string_table (names_header file).kind
+    && is_unended (section_bytes file (names_header file)) (section_header file i).name)
 
 unfoldable pub section_shape_rule : List ℕ → Check
 section_shape_rule file = refuse_found error.SectionShape (first (e_shnum file) (is_section_misshapen file))
@@ -256,7 +258,8 @@ rela_fault file s =
     else None
 
 unfoldable pub rela_shape_rule : List ℕ → Check
-rela_shape_rule file = refuse_found_at error.RelaShape (λ i. rela_fault file (section_header file i)) (first (e_shnum file) (λ i. is_some (rela_fault file (section_header file i))))
+rela_shape_rule file = refuse_found_at error.RelaShape (λ i. rela_fault file (section_header file i))
+    (first (e_shnum file) (λ i. is_some (rela_fault file (section_header file i))))
 
 -- ---- limits of the reader, beside the rules
 
