@@ -74,7 +74,10 @@ pub record FaultsFound (f g : Program) (reached : ℕ → Bool) (spans : List (�
       → Covers f g reached first bound regs (n + 1 + b)
       → SettlesWithin spans 0 b (run v) (λ k. after_output g regs (n + 1 + k))
   -- a comparison that goes wrong stands before its EBREAK
-  pub comparisons : (regs : List ℕ) (n : ℕ) (i : Ins) → (misled i (after_output g regs n)).outcome ≡ Going → next (misled i (after_output g regs n)) ≡ ebreak → Fires 1 (misled i (after_output g regs n))
+  pub comparisons :
+      (regs : List ℕ) (n : ℕ) (i : Ins) → (misled i (after_output g regs n)).outcome ≡ Going → next (misled i (after_output g regs n)) ≡ ebreak
+      → Fires 1 (misled i (after_output g regs n))
+  -- a branch that goes wrong stands before the one that checks it
   pub branches :
-      (regs : List ℕ) (n : ℕ) (i : Ins) → AreStartRegs regs → (after_output g regs n).outcome ≡ Going → next (after_output g regs n) ≡ Known i → IsCheckedBranch i (after_output g regs n)
-      → Covers f g reached first bound regs (n + 1 + 2) → Fires 2 (misled i (after_output g regs n))
+      (regs : List ℕ) (n : ℕ) (i : Ins) → AreStartRegs regs → (after_output g regs n).outcome ≡ Going → next (after_output g regs n) ≡ Known i
+      → IsCheckedBranch i (after_output g regs n) → Covers f g reached first bound regs (n + 1 + 2) → Fires 2 (misled i (after_output g regs n))
