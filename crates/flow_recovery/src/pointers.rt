@@ -98,8 +98,9 @@ fn summed(alloc: Global, found: Found, code: &Code<'_>) -> Result<BTreeSet<u64>,
     Ok(all.reached)
 }
 
+/// Of the addresses at which words stand, those to which a constant of the code leads. Nothing is
+/// said of other addresses in the list.
 #[tactic(auto, using(crate::proofs::FoundLaws::made_is))]
-/// The addresses that the constants of the code lead to: all at which words stand.
 pub(crate) fn made(alloc: Global, test: &Test) -> Result<Vec<u64>, AllocError>
     ensures { IfOk result (λ list. (a : ℕ) → stands test.now.code a ≡ true → lists list.items a ≡ is_made test.now a test.now.code) }
 {
