@@ -2,7 +2,8 @@
 ghost use Rattle.std.specs.Prelude.{◌≡◌, ◌+◌, ◌*◌, ◌≤◌, ◌<◌, ◌^◌};
 ghost use Rattle.std.specs.Option.{SomeIff};
 ghost use Rattle.qed_model.specs.declared.steps.TheConstants.{LEAN_LEAVE_STEPS};
-ghost use Rattle.qed_model.specs.Weave.LeanBounds.{cost_of, entry_steps as entry_steps_of, call_steps as call_steps_of, check_bound, period as period_of, lean_bounds_of};
+ghost use Rattle.qed_model.specs.Weave.LeanBounds.{cost_of, entry_steps as entry_steps_of, call_steps as call_steps_of, check_bound, period as period_of};
+ghost use Rattle.qed_model.specs.Weave.LeanBounds.{lean_bounds_of};
 ghost use Rattle.qed_model.specs.Weave.Pieces.{piece_count};
 ghost use Rattle.bound_calc.specs.Fitting.{fitting, AreSmall};
 

@@ -14,7 +14,7 @@ use Rattle.passes.specs.Pass.{Honest, Lockstep, AllLow}
 use Rattle.passes.specs.Compose.{honest_items_then, honest_items_none}
 use Rattle.passes.proofs.HonestWords.{honest_on, honest_constant}
 use Rattle.passes.proofs.Guards.{honest_guards}
-use Rattle.eddi_dup.specs.Parts.{bare}
+use Rattle.eddi_dup.specs.Parts.{unguarded}
 pub use Rattle.weave_core.specs.Parts.{any}
 pub use Rattle.weave_core.proofs.Lemmas.{quiet_original, quiet_mirrored, quiet_compare, lockstep_original}
 
@@ -26,7 +26,7 @@ honest_word far class.Store i e b = honest_on far i class.Store e tt
 honest_word far class.Fence i e b = honest_on far i class.Fence e tt
 honest_word far c i e b = absurd b
 
-pub honest_original : (i : Ins) (at : ℕ) → FitsPiece i → Honest any (bare i at)
+pub honest_original : (i : Ins) (at : ℕ) → FitsPiece i → Honest any (unguarded i at)
 honest_original i at f = record {
   honest = λ far s. elim (is_auipc i.kind) as (λ b. HonestItems far (cond b (Constant i.rd (target i at) ∷ []) (Plain i ∷ []))) [
     | true ↦ honest_constant far i.rd (target i at)

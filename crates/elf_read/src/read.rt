@@ -5,7 +5,7 @@ ghost use Rattle.machine.specs.Below.{each};
 ghost use Rattle.tests.specs.Files.Header.{e_phnum, e_shnum};
 ghost use Rattle.tests.specs.Files.Rules.{is_section_outside, is_segment_outside, section_strings, strings_of, symbol_table, part_rules, verdict, read_verdict};
 ghost use Rattle.tests.specs.Files.File.{File, load_bytes, segment_of, section_of, symbol_of, symbols_at, IsReadAs};
-ghost use Rattle.tests.specs.Files.Refusals.{IsAccepted, IsRefused};
+ghost use Rattle.tests.specs.Files.Refusals.{IsAccepted, IsFileRefused};
 ghost use Rattle.tests.specs.Elf.Sound.{IsSound};
 ghost use Rattle.machine.specs.Loading.{load_segments};
 ghost use Rattle.machine.specs.Apart.{AllFitMemory, AreApart};
@@ -168,7 +168,7 @@ pub fn read_elf(alloc: Global, bytes: &[u8]) -> Result<ElfFile, ElfError>
     ensures sound { IfOk result IsSound }
     ensures fit { IfOk result (λ f. AllFitMemory (load_segments f.segments)) }
     ensures apart { IfOk result (λ f. AreApart (load_segments f.segments)) }
-    ensures refused { IfErr result (λ e. IsRefused bytes.now e ⊎ ((e ≡ error.Memory) × (read_verdict bytes.now ≡ Ok tt))) }
+    ensures refused { IfErr result (λ e. IsFileRefused bytes.now e ⊎ ((e ≡ error.Memory) × (read_verdict bytes.now ≡ Ok tt))) }
 {
     let sound = sound(alloc, bytes)?;
     let shared = Shared::copied(alloc, bytes)?;
@@ -187,7 +187,7 @@ pub fn read_shared(alloc: Global, file: &Shared) -> Result<ElfFile, ElfError>
     ensures sound { IfOk result IsSound }
     ensures fit { IfOk result (λ f. AllFitMemory (load_segments f.segments)) }
     ensures apart { IfOk result (λ f. AreApart (load_segments f.segments)) }
-    ensures refused { IfErr result (λ e. IsRefused file.now e ⊎ ((e ≡ error.Memory) × (read_verdict file.now ≡ Ok tt))) }
+    ensures refused { IfErr result (λ e. IsFileRefused file.now e ⊎ ((e ≡ error.Memory) × (read_verdict file.now ≡ Ok tt))) }
 {
     let sound = sound(alloc, file.as_slice())?;
     Ok(elf_file(&sound, alloc, file)?)

@@ -9,7 +9,7 @@ use Rattle.std.proofs.Math.Bool.{or_assoc}
 use Rattle.std.proofs.lemmas.List.{take_all}
 use Rattle.std.proofs.lemmas.List.Folds.{list_any_more}
 use Rattle.std.proofs.lemmas.Map.Keys.{below_from_sorted}
-use Rattle.flow_recovery.specs.Sets.{lists, stands, Adds, AddsAt}
+use Rattle.flow_recovery.specs.Sets.{lists, has_word_at, Adds, AddsAt}
 
 -- ---- one step behind another
 pub adds_then : (s t u : List ℕ) (p q : ℕ → Bool) → Adds s t p → Adds t u q → Adds s u (λ a. p a || q a)
@@ -28,7 +28,7 @@ pub adds_first : (s t : List ℕ) (p : ℕ → Bool) → s ≡ [] → Adds s t p
 adds_first s t p empty h a = h.each a ∙ ap (λ xs. lists xs a || p a) empty
 
 -- additions to an empty list, if only addresses of words count
-pub at_first : (words : List CodeWord) (s t : List ℕ) (p : ℕ → Bool) → s ≡ [] → AddsAt words s t p → (a : ℕ) → stands words a ≡ true → lists t a ≡ p a
+pub at_first : (words : List CodeWord) (s t : List ℕ) (p : ℕ → Bool) → s ≡ [] → AddsAt words s t p → (a : ℕ) → has_word_at words a ≡ true → lists t a ≡ p a
 at_first words s t p empty h a at = h.each a at ∙ ap (λ xs. lists xs a || p a) empty
 
 -- behind a step, all elements of a list

@@ -1,7 +1,7 @@
 //! Addresses: first a list, in any order and with repetitions, then a set.
 ghost use Rattle.std.specs.Prelude.{◌≡◌, ℕ, ◌==◌, ◌<◌, map, AllPairs, OnOk, IfOk};
 ghost use Rattle.machine.specs.Sets.{has_address};
-ghost use Rattle.flow_recovery.specs.Sets.{lists, stands, Adds, Gains};
+ghost use Rattle.flow_recovery.specs.Sets.{lists, has_word_at, Adds, Gains};
 
 use qed_model::CodeWord;
 use std::alloc::{AllocError, Global};
@@ -69,7 +69,7 @@ fn addresses(alloc: Global, words: &[CodeWord]) -> Result<Vec<u64>, AllocError>
 
 /// The addresses at which words stand.
 pub fn places(alloc: Global, words: &[CodeWord]) -> Result<BTreeSet<u64>, AllocError>
-    ensures { IfOk result (λ set. (a : ℕ) → has_address set a ≡ stands words.now a) }
+    ensures { IfOk result (λ set. (a : ℕ) → has_address set a ≡ has_word_at words.now a) }
 {
     let list = addresses(alloc, words)?;
     let set = set_of(alloc, list)?;

@@ -5,18 +5,18 @@ use Rattle.qed_model.specs.declared.change.Change.{Change}
 use Rattle.machine.specs.Memory.{Memory}
 use Rattle.machine.specs.Struck.{struck}
 use Rattle.qed_model.specs.Promise.Changed.{changed_run}
-use Rattle.machine.specs.Progress.{steps_after, begun, progress}
+use Rattle.machine.specs.Progress.{steps_after, first_state, progress}
 use Rattle.machine.specs.Step.{State}
 use Rattle.machine.specs.Program.{Program, start, zeros}
 use Rattle.rv_step.specs.Harts.{HartState}
-use Rattle.harts.specs.Harts.{Hart, World, state_of, begin, turned, on_hart, hart_turns, world_after}
+use Rattle.harts.specs.Harts.{Hart, HartsWorld, state_of, begin_harts, turned, on_hart, hart_turns, world_after}
 use Rattle.qed_model.specs.Promise.Kept.{NotTrapped, Kept}
-use Rattle.harts.specs.Together.{IsProgram, AreAlone, Shows, own_run, HartKept}
+use Rattle.harts.specs.Together.{IsProgram, AreAlone, ShowsHart, own_run, HartKept}
 
 -- ---- all harts
 -- a world, and the steps of each hart
 pub record Counted : Type 0 where
-  pub world : World
+  pub world : HartsWorld
   pub steps : List ℕ
 
 -- a hart without its steps
@@ -24,12 +24,12 @@ abbrev pub bare : HartState → Hart
 bare h = record { regs = h.regs; pc = h.pc; ranges = h.ranges; outcome = h.outcome }
 
 -- a world of harts with their steps, and a memory
-abbrev pub counted : List HartState → Memory → Counted
-counted hs m = record { world = record { harts = map bare hs; memory = m }; steps = map (λ h. h.steps) hs }
+abbrev pub counted_world : List HartState → Memory → Counted
+counted_world hs m = record { world = record { harts = map bare hs; memory = m }; steps = map (λ h. h.steps) hs }
 
 -- the world before the first turn
 abbrev pub counted_start : List Program → Counted
-counted_start gs = record { world = begin gs; steps = map (λ g. 0) gs }
+counted_start gs = record { world = begin_harts gs; steps = map (λ g. 0) gs }
 
 -- the steps after a turn of hart number i
 abbrev pub steps_turned : Option Hart → ℕ → List ℕ → List ℕ
@@ -73,7 +73,7 @@ own_steps s cs (suc n) = steps_after (changed_run s cs n).outcome (own_steps s c
 -- ---- what is promised
 -- a hart stands as a state does, and has made n steps
 pub record ShowsCounted (g : Program) (i : ℕ) (c : Counted) (s : State) (n : ℕ) : Type 0 where
-  pub shows : Shows g i c.world s
+  pub shows : ShowsHart g i c.world s
   pub steps : slice_get c.steps i ≡ Some n
 
 -- after any schedule each hart stands as its run alone does, with as many steps
@@ -86,7 +86,7 @@ abbrev pub TurnsRun : Type 0
 TurnsRun = (gs : List Program) (ts : List ℕ) → AreAlone gs (λ i. []) ts
     → (i : ℕ) (g : Program) → IsProgram gs i g
     → ShowsCounted g i (counted_turns (counted_start gs) ts)
-    (progress (begun (start g zeros)) (hart_turns ts i)).state (progress (begun (start g zeros)) (hart_turns ts i)).steps
+    (progress (first_state (start g zeros)) (hart_turns ts i)).state (progress (first_state (start g zeros)) (hart_turns ts i)).steps
 
 -- ---- what is promised of a file
 -- the state of hart i after turns without changes, k of them its own

@@ -17,7 +17,7 @@ use Rattle.qed_model.specs.Weave.Sequences.{Block, SIGNATURE}
 
 -- ---- where a jump leads
 -- a word of the pieces of a block, or the first one behind them
-pub record IsInside (s : Sequences) (entry : ℕ → ℕ) (b : Block) (q : ℕ) : Type 0 where
+pub record IsInBlock (s : Sequences) (entry : ℕ → ℕ) (b : Block) (q : ℕ) : Type 0 where
   pub words : ℕ
   pub within : 4 * words ≤ sum_of_sizes false (pieces_of s b.body b.start)
   pub there : q ≡ entry b.start + sum_of_sizes false (s.enter b.start) + 4 * words
@@ -39,7 +39,7 @@ steps_in s b = sum_of_sizes false (pieces_of s b.body b.start) / 4 + 19
 -- for any start registers: a state of the run, placed inside a block under another signature, is over within `steps_in`
 pub record Strayed (g : Program) (s : Sequences) (entry : ℕ → ℕ) (blocks : List Block) : Type 0 where
   pub stops :
-      (regs : List ℕ) (t q : ℕ) (b : Block) → AreStartRegs regs → (after_output g regs t).outcome ≡ Going → Among b blocks → IsInside s entry b q
+      (regs : List ℕ) (t q : ℕ) (b : Block) → AreStartRegs regs → (after_output g regs t).outcome ≡ Going → Among b blocks → IsInBlock s entry b q
       → (reg (after_output g regs t) SIGNATURE ≡ b.start → ⊥)
       → Stopped (steps_in s b) (placed_at q (after_output g regs t))
 

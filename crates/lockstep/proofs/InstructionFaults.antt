@@ -20,7 +20,7 @@ use Rattle.weave_core.specs.WeavePromise.{PlanOf, BoundsOf}
 use Rattle.weave_core.specs.WeaveForms.{weave_of}
 use Rattle.weave_core.specs.Rows.{Mirrors}
 use Rattle.weave_core.specs.Promise.{piece_of, start_of}
-use Rattle.weave_core.specs.Weave.{start_steps, stage_steps}
+use Rattle.weave_core.specs.Weave.{most_before_start, stage_steps}
 use Rattle.machine.specs.Loading.{loaded_file}
 use Rattle.tests.specs.Admission.Places.{image_of}
 use Rattle.weave_core.specs.World.{World, Going, put, number, Program, start, AreStartRegs, State, reg, moved, stored, next_pc, place, Known, next, step, run, Kind, Lb, set_reg, width_of}
@@ -154,9 +154,9 @@ pub plan_faults :
     → FaultsFound f g w.reached w.form.spans bounds (start_of w.form) (piece_of w.form most)
 plan_faults f g w most blocks bounds p law closes some b =
     subst (λ n. FaultsFound f g w.reached w.form.spans bounds n (piece_of w.form most)) (sym (start_is w most))
-    (subst (λ n. FaultsFound f g w.reached w.form.spans bounds (start_steps (weave_of w.form most)) n) (sym (stage_is w most))
-    (faults_found f g w (start_steps (weave_of w.form most)) (stage_steps (weave_of w.form most)) bounds code big wide (plan_caught_all f g w most blocks bounds p law closes some b))) where
-      code : CalmCode f g w (start_steps (weave_of w.form most)) (stage_steps (weave_of w.form most))
+    (subst (λ n. FaultsFound f g w.reached w.form.spans bounds (most_before_start (weave_of w.form most)) n) (sym (stage_is w most))
+    (faults_found f g w (most_before_start (weave_of w.form most)) (stage_steps (weave_of w.form most)) bounds code big wide (plan_caught_all f g w most blocks bounds p law closes some b))) where
+      code : CalmCode f g w (most_before_start (weave_of w.form most)) (stage_steps (weave_of w.form most))
       code = calm_plan f g w (weave_of w.form most) blocks p (form_rows w most (begins_at blocks) law).rows (form_starts w most (begins_at blocks) f g) (form_words w.form most closes.mirrors) closes.only (omega arith)
 
       are_bounds : BoundsOf w (weave_of w.form most) bounds
@@ -169,7 +169,7 @@ plan_faults f g w most blocks bounds p law closes some b =
       big = omega (arith, are_bounds.register)
 
       wide : (n : ℕ) → bounds.word ≡ Some n → 2 ≤ n
-      wide n e = big_word (word_count w.form.spans) w.form.round (start_steps (weave_of w.form most)) (stage_steps (weave_of w.form most)) n big_piece (sym are_bounds.word ∙ e)
+      wide n e = big_word (word_count w.form.spans) w.form.round (most_before_start (weave_of w.form most)) (stage_steps (weave_of w.form most)) n big_piece (sym are_bounds.word ∙ e)
 
 -- ---- of each test
 pub instruction_faults_are_caught : InstructionFaultsAreCaught

@@ -1,12 +1,16 @@
 -- States of the machine, one step, and runs (RISC-V unprivileged manual, RV64I).
 -- A hart whose memory has permissions for each byte. ECALL ends a run, EBREAK fires a check (this project's profile).
-use Rattle.std.specs.Prelude.{◌≡◌, ℕ, zero, suc, ◌+◌, ◌*◌, ◌/◌, ◌%◌, ◌^◌, Bool, false, cond, ◌&&◌, ◌||◌, List, [], ◌∷◌, nat_le, ◌==◌, Option, Some, None, pos, slice_index}
+use Rattle.std.specs.Prelude.{◌≡◌, ℕ, zero, suc, ◌+◌, ◌*◌, ◌/◌, ◌%◌, ◌^◌, Bool, false, cond, ◌&&◌, ◌||◌, List, [], ◌∷◌, nat_le, ◌==◌, Option, Some, None, pos}
+use Rattle.std.specs.Prelude.{slice_index}
 pub use Rattle.rv_isa.specs.declared.ins.Ins.{Ins}
 pub use Rattle.rv_isa.specs.declared.class.Class.{Class}
 pub use Rattle.rv_isa.specs.Kind.{class_of}
 pub use Rattle.rv_isa.specs.Regs.{set_reg}
 use Rattle.rv_isa.specs.declared.class.Class.TheVariants as class
-pub use Rattle.machine.specs.Table.{Illegal, Lui, Auipc, Jal, Jalr, Beq, Bne, Blt, Bge, Bltu, Bgeu, Lb, Lh, Lw, Ld, Lbu, Lhu, Lwu, Sb, Sh, Sw, Sd, Addi, Slti, Sltiu, Xori, Ori, Andi, Slli, Srli, Srai, Add, Sub, Sll, Slt, Sltu, Xor, Srl, Sra, Or, And, Fence, Ecall, Ebreak, Addiw, Slliw, Srliw, Sraiw, Addw, Subw, Sllw, Srlw, Sraw, Mul, Mulh, Mulhsu, Mulhu, Div, Divu, Rem, Remu, Mulw, Divw, Divuw, Remw, Remuw, Kind, ins, row_of}
+pub use Rattle.machine.specs.Table.{Illegal, Lui, Auipc, Jal, Jalr, Beq, Bne, Blt, Bge, Bltu, Bgeu, Lb, Lh, Lw, Ld, Lbu, Lhu, Lwu, Sb, Sh, Sw, Sd, Addi, Slti}
+pub use Rattle.machine.specs.Table.{Sltiu, Xori, Ori, Andi, Slli, Srli, Srai, Add, Sub, Sll, Slt, Sltu, Xor, Srl, Sra, Or, And, Fence, Ecall, Ebreak, Addiw}
+pub use Rattle.machine.specs.Table.{Slliw, Srliw, Sraiw, Addw, Subw, Sllw, Srlw, Sraw, Mul, Mulh, Mulhsu, Mulhu, Div, Divu, Rem, Remu, Mulw, Divw, Divuw}
+pub use Rattle.machine.specs.Table.{Remw, Remuw, Kind, ins, row_of}
 use Rattle.machine.specs.Table.{Format, R, decode_of}
 use Rattle.machine.specs.declared.outcome.Cause.{Cause}
 pub use Rattle.machine.specs.declared.outcome.Outcome.{Outcome}

@@ -1,6 +1,9 @@
 -- What each instruction computes, over whole numbers (RISC-V unprivileged manual, "RV64I" and the M extension).
-use Rattle.std.specs.Prelude.{ℕ, suc, ◌+◌, ◌-◌, ◌*◌, ◌/◌, ◌%◌, ◌^◌, Bool, false, cond, not, nat_lt, ◌==◌, bit_and, bit_or, bit_xor, ℤ, pos, negsuc, ◌*ℤ◌, int_lt, int_div, int_rem}
-use Rattle.machine.specs.Table.{Beq, Bne, Blt, Bge, Bltu, Bgeu, Lb, Lh, Lw, Lbu, Lhu, Lwu, Sb, Sh, Sw, Addi, Slti, Sltiu, Xori, Ori, Andi, Slli, Srli, Srai, Add, Sub, Sll, Slt, Sltu, Xor, Srl, Sra, Or, And, Addiw, Slliw, Srliw, Sraiw, Addw, Subw, Sllw, Srlw, Sraw, Mul, Mulh, Mulhsu, Mulhu, Div, Divu, Rem, Remu, Mulw, Divw, Divuw, Remw, Remuw, Kind, signed, is_zero}
+use Rattle.std.specs.Prelude.{ℕ, suc, ◌+◌, ◌-◌, ◌*◌, ◌/◌, ◌%◌, ◌^◌, Bool, false, cond, not, nat_lt, ◌==◌, bit_and, bit_or, bit_xor, ℤ, pos, negsuc, ◌*ℤ◌}
+use Rattle.std.specs.Prelude.{int_lt, int_div, int_rem}
+use Rattle.machine.specs.Table.{Beq, Bne, Blt, Bge, Bltu, Bgeu, Lb, Lh, Lw, Lbu, Lhu, Lwu, Sb, Sh, Sw, Addi, Slti, Sltiu, Xori, Ori, Andi, Slli, Srli, Srai}
+use Rattle.machine.specs.Table.{Add, Sub, Sll, Slt, Sltu, Xor, Srl, Sra, Or, And, Addiw, Slliw, Srliw, Sraiw, Addw, Subw, Sllw, Srlw, Sraw, Mul, Mulh, Mulhsu}
+use Rattle.machine.specs.Table.{Mulhu, Div, Divu, Rem, Remu, Mulw, Divw, Divuw, Remw, Remuw, Kind, signed, is_zero}
 
 -- z modulo 2^64
 abbrev pub wrapped : ℤ → ℕ

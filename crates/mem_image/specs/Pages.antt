@@ -78,7 +78,7 @@ pub record HasOne (ss : List LoadSegment) (order : List (ℕ × ℕ)) (n q : ℕ
   pub inside : has segment q ≡ true
 
 -- the pages hold what the first n segments of the order hold, which lie one behind the other and end at the bound
-pub record Covers (ss : List LoadSegment) (order : List (ℕ × ℕ)) (pages : List LoadSegment) (bound n : ℕ) : Type 0 where
+pub record CoversSegments (ss : List LoadSegment) (order : List (ℕ × ℕ)) (pages : List LoadSegment) (bound n : ℕ) : Type 0 where
   pub below : Below pages bound
   pub ends : (j : ℕ) (s : LoadSegment) → j < n → Names ss order j s → s.address + s.size ≤ bound
   pub apart : (i j : ℕ) (s t : LoadSegment) → i < j → j < n → Names ss order i s → Names ss order j t → s.address + s.size ≤ t.address

@@ -3,7 +3,7 @@ ghost use Rattle.std.specs.Prelude.{◌≡◌, ℕ, ◌≤◌, ◌^◌, IfOk, If
 ghost use Rattle.std.specs.FinMap.{get};
 ghost use Rattle.machine.specs.Memory.{Memory, put};
 ghost use Rattle.machine.specs.Program.{memory_of};
-ghost use Rattle.mem_image.specs.Overlap.{AreSound};
+ghost use Rattle.mem_image.specs.Overlap.{AreImage};
 
 use crate::held::Held;
 use crate::places::place;
@@ -18,10 +18,10 @@ pub fn put_from(
     width: u64,
     value: u64,
 ) -> Result<(), AllocError>
-    requires sound { AreSound pages.old }
+    requires sound { AreImage pages.old }
     requires part { from ≤ width }
     requires small { width ≤ 8 }
-    ensures sound { AreSound pages.new }
+    ensures sound { AreImage pages.new }
     ensures put { IfOk result (λ _. (m : Memory) → ((q : ℕ) → 2 ^ 64 ≤ q → get m q ≡ None)
         → memory_of pages.old ≡ put m address from value → memory_of pages.new ≡ put m address width value) }
     ensures kept { IfErr result (λ _. pages.new ≡ pages.old) }

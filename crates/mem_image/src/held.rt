@@ -1,7 +1,7 @@
 //! Pages in memory.
 ghost use Rattle.std.specs.Prelude.{◌≡◌, ◌+◌, ◌-◌, ◌<◌, ◌≤◌, ◌^◌, false, true, [], length, IfOk, IfErr};
 ghost use Rattle.mem_image.specs.Access.{needs};
-ghost use Rattle.mem_image.specs.Overlap.{segment_of};
+ghost use Rattle.mem_image.specs.Overlap.{plain_segment};
 ghost use Rattle.mem_image.specs.Pages.{HasRoom, HoldsFrom, IsPageOf};
 ghost use Rattle.machine.specs.Cells.{has, cell_at};
 ghost use Rattle.mem_image.specs.Segments.{has_all, number_in, with_bytes_at, IsLike};
@@ -105,7 +105,7 @@ impl Held {
         requires more { from < spec.now.memory }
         requires end { spec.now.address + spec.now.memory ≤ 2 ^ 64 }
         requires zeros { HoldsFrom [] 0 zeros.now.value.bytes }
-        ensures { IfOk result (IsPageOf (segment_of spec.now) from) }
+        ensures { IfOk result (IsPageOf (plain_segment spec.now) from) }
     {
         let page = page_from(alloc, zeros, spec.bytes.as_slice(), from)?;
         let size = (spec.memory - from).min(PAGE);

@@ -5,11 +5,11 @@ ghost use Rattle.std.specs.FinMap.{get};
 ghost use Rattle.machine.specs.Memory.{grants, poked, put};
 ghost use Rattle.machine.specs.Program.{memory_of};
 ghost use Rattle.machine.specs.Cells.{has};
-ghost use Rattle.mem_image.specs.Overlap.{segments_of, Explains};
+ghost use Rattle.mem_image.specs.Overlap.{segments_of, ExplainsImage};
 ghost use Rattle.machine.specs.Apart.{AllFitMemory, AreApart};
 ghost use Rattle.mem_image.specs.Access.{needs, allowed_byte, allowed_number, IsWidth};
-ghost use Rattle.mem_image.specs.Fixed.{has_code, IsFixed};
-ghost use Rattle.mem_image.specs.Segments.{Holds};
+ghost use Rattle.mem_image.specs.Fixed.{has_code, IsFixedCode};
+ghost use Rattle.mem_image.specs.Segments.{HoldsSegment};
 
 use crate::code::{Code, code_of};
 use crate::held::{Access, Held};
@@ -78,7 +78,7 @@ impl Image {
         requires { AllFitMemory (segments_of specs.now) }
         ensures made { IfOk result (λ image. image ≡ memory_of (segments_of specs.now)) }
         ensures apart { IfOk result (λ _. AreApart (segments_of specs.now)) }
-        ensures error { IfErr result (Explains (segments_of specs.now)) }
+        ensures error { IfErr result (ExplainsImage (segments_of specs.now)) }
     {
         match Image::paged(alloc, specs) {
             Ok(Some(image)) => Ok(image),
@@ -157,7 +157,7 @@ impl Image {
     /// they are; or None if the address has no such byte.
     #[tactic(auto, using(crate::proofs::FixedLaws::none_no_code, crate::proofs::FixedLaws::first_no_code, crate::proofs::FixedLaws::if_none))]
     pub fn code(&self, address: u64) -> Result<Option<Code>, AllocError>
-        ensures fixed { IfOk result (λ found. IfSome found (IsFixed self.now)) }
+        ensures fixed { IfOk result (λ found. IfSome found (IsFixedCode self.now)) }
         ensures some { IfOk result (λ found. IfSome found (λ code. has code address ≡ true)) }
         ensures none { IfOk result (λ found. IfNone found (has_code self.now address ≡ false)) }
     {
@@ -217,7 +217,7 @@ impl Image {
     /// The page that has the address.
     fn page(&self, address: u64) -> Option<&Held>
         ensures none { IfNone result (get self.now address ≡ None) }
-        ensures some { IfSome result (λ page. Holds self.now page.now address) }
+        ensures some { IfSome result (λ page. HoldsSegment self.now page.now address) }
     {
         let at = place(self.pages.as_slice(), self.near[slot(address)], address)?;
         Some(&self.pages.as_slice()[at])

@@ -2,7 +2,7 @@
 ghost use Rattle.std.specs.Prelude.{◌≡◌, ◌<◌, ◌≤◌, false, true, cond, length, IfOk, IfErr};
 ghost use Rattle.machine.specs.Memory.{grants, put};
 ghost use Rattle.machine.specs.Program.{memory_of};
-ghost use Rattle.mem_image.specs.Overlap.{AreSound};
+ghost use Rattle.mem_image.specs.Overlap.{AreImage};
 ghost use Rattle.mem_image.specs.Segments.{IsWholeAt};
 
 use crate::apart::put_from;
@@ -20,19 +20,19 @@ pub struct Pages {
 impl Model for Pages {
     ghost use Rattle.std.specs.Prelude.{List};
     ghost use Rattle.machine.specs.Program.{LoadSegment};
-    ghost use Rattle.mem_image.specs.Overlap.{AreSound};
+    ghost use Rattle.mem_image.specs.Overlap.{AreImage};
 
     ghost Value = { List LoadSegment };
 
     ghost view = { λ p. p.all.items };
 
-    ghost invariant = { λ p. AreSound p.all.items };
+    ghost invariant = { λ p. AreImage p.all.items };
 }
 
 impl Pages {
     /// These pages.
     pub fn of(pages: Vec<Held>) -> Pages
-        requires { AreSound pages.items }
+        requires { AreImage pages.items }
         ensures { result ≡ pages.items }
     {
         Pages { all: pages }
@@ -42,7 +42,7 @@ impl Pages {
     #[inline(always)]
     pub fn as_slice(&self) -> &[Held]
         ensures value { result.now ≡ self.now }
-        ensures sound { AreSound result.now }
+        ensures sound { AreImage result.now }
     {
         &self.all
     }

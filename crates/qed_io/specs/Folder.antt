@@ -16,16 +16,16 @@ pub record FolderState : Type 0 where
   pub stuck : ℕ
 
 -- what is known before and after is related; if nothing was known before, nothing is known after
-abbrev pub Leads : (FolderState → FolderState → Type 0) → Option FolderState → Option FolderState → Type 0
-Leads P old new = MatchOption old (new ≡ None) (λ o. IsSomeAnd new (P o))
+abbrev pub LeadsTold : (FolderState → FolderState → Type 0) → Option FolderState → Option FolderState → Type 0
+LeadsTold P old new = MatchOption old (new ≡ None) (λ o. IsSomeAnd new (P o))
 
 -- ---- what a call does
 abbrev pub Stays : FolderState → FolderState → Type 0
 Stays o n = n ≡ o
 
 -- the new file is there, and has no bytes
-abbrev pub IsMade : FolderState → FolderState → Type 0
-IsMade o n = n ≡ record { old = o.old; beside = Some []; is_synced = false; has_rights = false; stuck = o.stuck }
+abbrev pub IsEmptyFile : FolderState → FolderState → Type 0
+IsEmptyFile o n = n ≡ record { old = o.old; beside = Some []; is_synced = false; has_rights = false; stuck = o.stuck }
 
 abbrev pub HasRights : FolderState → FolderState → Type 0
 HasRights o n = n ≡ record o { has_rights = true }

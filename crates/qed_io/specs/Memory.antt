@@ -40,6 +40,6 @@ pub record SinkState : Type 0 where
   pub faults : ℕ
 
 -- how many bytes a write takes of a piece of this length
-abbrev pub taken : Option ℕ → ℕ → ℕ
-taken None size = size
-taken (Some most) size = min size most
+abbrev pub bytes_taken : Option ℕ → ℕ → ℕ
+bytes_taken None size = size
+bytes_taken (Some most) size = min size most

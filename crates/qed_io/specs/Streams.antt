@@ -5,7 +5,7 @@ use Rattle.std.specs.declared.io.Error.{Error}
 use Rattle.std.specs.declared.io.ErrorKind.{ErrorKind}
 use Rattle.std.specs.declared.io.ErrorKind.TheVariants.{OutOfMemory}
 use Rattle.std.specs.Io.KnownBytes.{Appends}
-use Rattle.qed_io.specs.Sink.{AppendsPart}
+use Rattle.qed_io.specs.Sink.{AppendsPrefix}
 use Rattle.qed_io.specs.declared.shelf.LoadError.{LoadError}
 use Rattle.qed_io.specs.declared.shelf.LoadError.TheVariants as load
 
@@ -32,4 +32,4 @@ StoresHeld held old new bytes = IsOkAnd old (λ before. IsOkAnd new (λ now. App
 
 -- a store through a sink, if it was opened, appended a prefix of the bytes, and not all of them
 abbrev pub StoresHeldPart : {W : Type 0} → (W → Option (List ℕ)) → Result W Error → Result W Error → List ℕ → Type 0
-StoresHeldPart held old new bytes = IfOk old (λ before. IsOkAnd new (λ now. AppendsPart (held before) (held now) bytes))
+StoresHeldPart held old new bytes = IfOk old (λ before. IsOkAnd new (λ now. AppendsPrefix (held before) (held now) bytes))

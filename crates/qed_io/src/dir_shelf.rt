@@ -1,6 +1,6 @@
 //! The machine's files.
 ghost use Rattle.std.specs.Prelude.{◌≡◌, ◌≢◌, ◌≤◌, ℕ, None, IsErrOf};
-ghost use Rattle.qed_io.specs.Counts.{CountsFaults, counted};
+ghost use Rattle.qed_io.specs.Counts.{CountsFaults, counted_up};
 ghost use Rattle.qed_io.specs.Shelf.{Loads, Stores};
 
 use crate::new_file::NewFile;
@@ -65,7 +65,7 @@ impl<R: Files + Drop> DirShelf<R> {
 
     // Replaces the file of the name, or leaves all as it was, where the machine does not let it.
     fn replace(&mut self, name: &str, bytes: &[u8]) -> Result<bool, StoreError>
-        ensures failed { IsErrOf result StoreError.Failed → self.new ≡ counted self.old }
+        ensures failed { IsErrOf result StoreError.Failed → self.new ≡ counted_up self.old }
         ensures steady { result ≢ Err StoreError.Failed → self.new ≡ self.old }
         ensures not_fell { self.old ≤ self.new }
     {
@@ -87,7 +87,7 @@ impl<R: Files + Drop> Shelf for DirShelf<R> {
         ensures loads { Loads None (λ _. self.old) (λ _. self.new) name.now limit result }
         ensures stores { CountsFaults (IsErrOf result LoadError.Failed) (λ _. self.old) (λ _. self.new) }
 
-        ensures failed { IsErrOf result LoadError.Failed → self.new ≡ counted self.old }
+        ensures failed { IsErrOf result LoadError.Failed → self.new ≡ counted_up self.old }
         ensures steady { result ≢ Err LoadError.Failed → self.new ≡ self.old }
     {
         let opened = fs::open(&self.machine, name);
@@ -98,7 +98,7 @@ impl<R: Files + Drop> Shelf for DirShelf<R> {
         ensures stores { Stores None None (λ _. self.old) (λ _. self.new) name.now bytes.now result }
         ensures loads { CountsFaults (IsErrOf result StoreError.Failed) (λ _. self.old) (λ _. self.new) }
 
-        ensures failed { IsErrOf result StoreError.Failed → self.new ≡ counted self.old }
+        ensures failed { IsErrOf result StoreError.Failed → self.new ≡ counted_up self.old }
         ensures steady { result ≢ Err StoreError.Failed → self.new ≡ self.old }
     {
         if is_replaceable(&self.machine, name) {

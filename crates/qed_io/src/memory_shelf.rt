@@ -1,8 +1,9 @@
 //! A shelf in memory whose calls fail as planned.
-ghost use Rattle.std.specs.Prelude.{◌≡◌, ◌≢◌, ◌↔◌, ◌⊎◌, List, ℕ, [], ◌∷◌, ◌++◌, Some, None, IsSome, IsSomeAnd, IfSome, IsErr, OnOk, OnErr, IsErrOf, find, take, ◌==◌};
+ghost use Rattle.std.specs.Prelude.{◌≡◌, ◌≢◌, ◌↔◌, ◌⊎◌, List, ℕ, [], ◌∷◌, ◌++◌, Some, None, IsSome, IsSomeAnd, IfSome, IsErr, OnOk, OnErr, IsErrOf, find};
+ghost use Rattle.std.specs.Prelude.{take, ◌==◌};
 ghost use Rattle.std.specs.Option.{option_map};
 ghost use Rattle.std.specs.FinMap as map;
-ghost use Rattle.qed_io.specs.Counts.{CountsFaults, counted};
+ghost use Rattle.qed_io.specs.Counts.{CountsFaults, counted_up};
 ghost use Rattle.qed_io.specs.Shelf.{Loads, Stores};
 ghost use Rattle.qed_io.specs.Memory.{planned, files_left};
 
@@ -117,10 +118,10 @@ impl Shelf for MemoryShelf {
 
         // It fails exactly if the call was planned to, or the file does not exist.
         ensures fails { IsErrOf result LoadError.Failed ↔ (IsSome (planned self.old.failing self.old.calls) ⊎ (map.get self.old.files name.now ≡ None)) }
-        ensures counted { IsErrOf result LoadError.Failed → self.new.faults ≡ counted self.old.faults }
+        ensures counted { IsErrOf result LoadError.Failed → self.new.faults ≡ counted_up self.old.faults }
         ensures uncounted { result ≢ Err LoadError.Failed → self.new.faults ≡ self.old.faults }
 
-        ensures calls { self.new.calls ≡ counted self.old.calls }
+        ensures calls { self.new.calls ≡ counted_up self.old.calls }
         ensures plans { self.new.failing ≡ self.old.failing }
     {
         let call = self.calls;
@@ -153,10 +154,10 @@ impl Shelf for MemoryShelf {
             self.new.files ≡ files_left plan.keep self.old.files name.now bytes.now) }
         ensures planned { IsSome (planned self.old.failing self.old.calls) → IsErr result }
         ensures kept_nothing { IfSome (planned self.old.failing self.old.calls) (λ plan. plan.keep ≡ None → result ≡ Err StoreError.Failed) }
-        ensures counted { IsErrOf result StoreError.Failed → self.new.faults ≡ counted self.old.faults }
+        ensures counted { IsErrOf result StoreError.Failed → self.new.faults ≡ counted_up self.old.faults }
         ensures uncounted { result ≢ Err StoreError.Failed → self.new.faults ≡ self.old.faults }
 
-        ensures calls { self.new.calls ≡ counted self.old.calls }
+        ensures calls { self.new.calls ≡ counted_up self.old.calls }
         ensures plans { self.new.failing ≡ self.old.failing }
     {
         let call = self.calls;

@@ -3,7 +3,7 @@
 ghost use Rattle.std.specs.Prelude.{◌≡◌, ◌≢◌, ◌≤◌, IfOk, IfSome, OnOk, OnErr, IfErr, IsErrOf, length, take};
 ghost use Rattle.std.specs.IoError.{error_kind};
 ghost use Rattle.std.specs.Io.KnownBytes.{Appends, Keeps};
-ghost use Rattle.qed_io.specs.Counts.{counted};
+ghost use Rattle.qed_io.specs.Counts.{counted_up};
 ghost use Rattle.qed_io.specs.Streams.{load_error_of, within_limit, LoadsHeld, StoresHeld, StoresHeldPart};
 
 use crate::{LoadError, Sink, StoreError, put_all};
@@ -64,7 +64,7 @@ pub(crate) fn load_opened<R: Read + Drop>(
 ) -> Result<Bytes, LoadError>
     ensures held { LoadsHeld R.remaining opened limit result }
     ensures unopened { IfErr opened (λ error. result ≡ Err (load_error_of (error_kind error))) }
-    ensures failed { IsErrOf result LoadError.Failed → faults.new ≡ counted faults.old }
+    ensures failed { IsErrOf result LoadError.Failed → faults.new ≡ counted_up faults.old }
     ensures steady { result ≢ Err LoadError.Failed → faults.new ≡ faults.old }
     ensures not_fell { faults.old ≤ faults.new }
 {
@@ -113,7 +113,7 @@ pub(crate) fn store_opened<K: Sink>(
 ) -> Result<(), StoreError>
     ensures stored { OnOk result (StoresHeld K.written opened.old opened.new bytes.now) }
     ensures part { OnErr result (StoresHeldPart K.written opened.old opened.new bytes.now) }
-    ensures failed { OnErr result ((result ≡ Err StoreError.Failed) × (faults.new ≡ counted faults.old)) }
+    ensures failed { OnErr result ((result ≡ Err StoreError.Failed) × (faults.new ≡ counted_up faults.old)) }
     ensures steady { OnOk result (faults.new ≡ faults.old) }
     ensures not_fell { faults.old ≤ faults.new }
 {

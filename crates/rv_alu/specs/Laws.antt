@@ -9,7 +9,7 @@ use Rattle.rv_isa.proofs.OperationLaws.{same_rs1, same_rs2, set_frame, set_same,
 use Rattle.machine.proofs.Lemmas.{each_kind}
 use Rattle.machine.specs.Table.{Format, R, row_of, Kind, Lui, Auipc, Jalr, Ins}
 use Rattle.machine.specs.Step.{operand, computed_value, Class}
-use Rattle.rv_alu.specs.Steps.{following, computed, same, linked, branched, landing, landed, IsComputing, IsBranching, IsJumping, IsPassing}
+use Rattle.rv_alu.specs.Steps.{following, computed, no_write, linked, branched, jump_target, landed, IsComputing, IsBranching, IsJumping, IsPassing}
 
 -- ---- what is read
 -- the sources of an instruction on other registers are those of the instruction
@@ -90,14 +90,14 @@ branched-same : (f : ℕ → ℕ) → f 0 ≡ 0 → (i : Ins) (pc : ℕ) (regs o
     → SameSources f i regs others → branched (renamed_by f i) pc others ≡ branched i pc regs
 branched-same f z i pc regs others c a b s = rw (rs1 f z i pc regs others a b s class.Branch c refl, rs2 f z i pc regs others a b s class.Branch c refl) refl
 
-pub branching_frame : Frame IsBranching same
+pub branching_frame : Frame IsBranching no_write
 branching_frame i pc regs c = (refl, λ r out. refl)
 
-pub branching_sources : Sources IsBranching same branched
+pub branching_sources : Sources IsBranching no_write branched
 branching_sources i pc regs others c d a b s =
     (branched-same (λ r. r) refl i pc regs others c a b s, λ r w. absurd (unwritten class.Branch i c refl r w))
 
-pub branching_mirror : Mirror IsBranching same branched
+pub branching_mirror : Mirror IsBranching no_write branched
 branching_mirror i pc regs others c p a b s =
     (branched-same pair refl i pc regs others c a b s, λ r w. absurd (unwritten class.Branch i c refl r w))
 
@@ -108,7 +108,7 @@ jump_writes c (inr e) = ap writes_rd e
 
 landing-same : (k : Kind) (f : ℕ → ℕ) (i : Ins) (pc : ℕ) (regs others : List ℕ)
     → (class_of k ≡ class.JumpReg → slice_index others (f i.rs1) ≡ slice_index regs i.rs1)
-    → landing k (renamed_by f i) pc others ≡ landing k i pc regs
+    → jump_target k (renamed_by f i) pc others ≡ jump_target k i pc regs
 landing-same Jalr f i pc regs others h = rw (h refl) refl
 landing-same k f i pc regs others h = refl
 
@@ -132,11 +132,11 @@ jumping_mirror i pc regs others c p a b s = (
 )
 
 -- ---- FENCE
-pub passing_frame : Frame IsPassing same
+pub passing_frame : Frame IsPassing no_write
 passing_frame i pc regs c = (refl, λ r out. refl)
 
-pub passing_sources : Sources IsPassing same following
+pub passing_sources : Sources IsPassing no_write following
 passing_sources i pc regs others c d a b s = (refl, λ r w. absurd (unwritten class.Fence i c refl r w))
 
-pub passing_mirror : Mirror IsPassing same following
+pub passing_mirror : Mirror IsPassing no_write following
 passing_mirror i pc regs others c p a b s = (refl, λ r w. absurd (unwritten class.Fence i c refl r w))

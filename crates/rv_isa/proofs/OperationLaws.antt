@@ -4,18 +4,18 @@ use Rattle.std.specs.Prelude.{slice_index}
 use Rattle.rv_isa.specs.declared.profile.TheConstants.{LAST_ORIGINAL}
 use Rattle.rv_isa.specs.declared.ins.Ins.{Ins}
 use Rattle.rv_isa.specs.Kind.{class_of, writes_rd, reads_rs1, reads_rs2}
-use Rattle.rv_isa.specs.Ins.{named, writes}
+use Rattle.rv_isa.specs.Ins.{named_register, writes}
 use Rattle.rv_isa.specs.Regs.{set_reg}
 use Rattle.rv_isa.specs.Operation.{AreRegs, ReadsRegister, pair}
 use Rattle.rv_isa.proofs.RegsLaws.{slice_index-set_reg_same, slice_index-set_reg_other, length-set_reg}
 
 -- a register with the field is named, and a named register is the one of the field
-pub named-some : (b : Bool) (r : ℕ) → b ≡ true → 0 < r → named b r ≡ Some r
+pub named-some : (b : Bool) (r : ℕ) → b ≡ true → 0 < r → named_register b r ≡ Some r
 named-some true zero e h = absurd (omega (arith, h))
 named-some true (suc r) e h = refl
 named-some false r e h = absurd (cc)
 
-pub some-named : (b : Bool) (n r : ℕ) → named b n ≡ Some r → (n ≡ r) × (0 < r) × (b ≡ true)
+pub some-named : (b : Bool) (n r : ℕ) → named_register b n ≡ Some r → (n ≡ r) × (0 < r) × (b ≡ true)
 some-named true zero r e = absurd (cc)
 some-named true (suc n) r e = let h : suc n ≡ r = cc in (h, omega (arith, h), refl)
 some-named false n r e = absurd (cc)

@@ -5,7 +5,7 @@ ghost use Rattle.rv_isa.specs.Regs.{set_reg};
 ghost use Rattle.rv_isa.specs.declared.class.Class.TheVariants as class;
 ghost use Rattle.machine.specs.Step.{act, computed_value, execute, imm, moved, next, next_pc, stopped, trapped};
 ghost use Rattle.rv_alu.specs.Steps.{branched, IsComputing, IsBranching, IsJumping, IsPassing};
-ghost use Rattle.rv_step.specs.Harts.{with_memory, Leads, LeadsIn};
+ghost use Rattle.rv_step.specs.Harts.{with_memory, LeadsHart, LeadsIn};
 ghost use Rattle.rv_step.specs.Known.{known_at, state_word, HasSecond};
 
 use crate::hart::Hart;
@@ -149,21 +149,21 @@ macro_rules! by_kind {
 impl Hart {
     /// Stops the hart.
     fn stop(&mut self, outcome: Outcome)
-        ensures { Leads (stopped outcome) self.old self.new }
+        ensures { LeadsHart (stopped outcome) self.old self.new }
     {
         self.outcome = outcome;
     }
 
     /// Stops the hart by a trap at its pc.
     fn trap(&mut self, cause: Cause)
-        ensures { Leads (trapped cause) self.old self.new }
+        ensures { LeadsHart (trapped cause) self.old self.new }
     {
         self.stop(Outcome::Trapped(cause, self.pc));
     }
 
     /// Goes to the next word.
     fn go_on(&mut self)
-        ensures step { Leads (λ s. moved s.regs (next_pc s) s) self.old self.new }
+        ensures step { LeadsHart (λ s. moved s.regs (next_pc s) s) self.old self.new }
         ensures on { self.new.outcome ≡ self.old.outcome }
     {
         self.pc = self.pc.wrapping_add(4);
@@ -171,7 +171,7 @@ impl Hart {
 
     /// Sets a register, and goes to the next word.
     fn write_back(&mut self, rd: Reg, value: u64)
-        ensures step { Leads (λ s. moved (set_reg rd value s.regs) (next_pc s) s) self.old self.new }
+        ensures step { LeadsHart (λ s. moved (set_reg rd value s.regs) (next_pc s) s) self.old self.new }
         ensures on { self.new.outcome ≡ self.old.outcome }
     {
         self.go_on();
@@ -203,7 +203,7 @@ impl Hart {
         requires kind { ins.now.kind ≡ kind }
         requires class { IsComputing (class_of kind) }
         requires second { HasSecond kind ins.now self.old.regs second }
-        ensures step { Leads (execute (class_of ins.now.kind) ins.now) self.old self.new }
+        ensures step { LeadsHart (execute (class_of ins.now.kind) ins.now) self.old self.new }
         ensures on { self.new.outcome ≡ self.old.outcome }
     {
         let value = self.computed(kind, ins, second);
@@ -228,7 +228,7 @@ impl Hart {
     /// FENCE.
     fn pass(&mut self, ins: &Ins)
         requires { IsPassing (class_of ins.now.kind) }
-        ensures step { Leads (execute (class_of ins.now.kind) ins.now) self.old self.new }
+        ensures step { LeadsHart (execute (class_of ins.now.kind) ins.now) self.old self.new }
         ensures on { self.new.outcome ≡ self.old.outcome }
     {
         self.pc = Passing.act(ins, self.pc, &mut self.regs);
@@ -285,7 +285,7 @@ impl Hart {
         requires kind { ins.now.kind ≡ kind }
         requires class { IsBranching (class_of kind) }
         requires grain { self.old.pc % 4 ≡ 0 }
-        ensures step { Leads (execute (class_of ins.now.kind) ins.now) self.old self.new }
+        ensures step { LeadsHart (execute (class_of ins.now.kind) ins.now) self.old self.new }
         ensures on { result ≡ true → self.new.outcome ≡ self.old.outcome }
     {
         let target = self.arrival(kind, ins);
@@ -313,7 +313,7 @@ impl Hart {
     #[inline(always)]
     fn jump(&mut self, ins: &Ins) -> bool
         requires { IsJumping (class_of ins.now.kind) }
-        ensures step { Leads (execute (class_of ins.now.kind) ins.now) self.old self.new }
+        ensures step { LeadsHart (execute (class_of ins.now.kind) ins.now) self.old self.new }
         ensures on { result ≡ true → self.new.outcome ≡ self.old.outcome }
     {
         let before = self.reg(ins.rd);

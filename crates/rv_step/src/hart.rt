@@ -3,13 +3,13 @@ ghost use Rattle.std.specs.Prelude.{◌≡◌, ◌-◌, ◌%◌, ◌<◌, ◌≤
 ghost use Rattle.machine.specs.Memory.{Memory};
 ghost use Rattle.machine.specs.Loading.{loaded_file};
 ghost use Rattle.machine.specs.Program.{start};
-ghost use Rattle.machine.specs.Progress.{advanced, begun, progress};
+ghost use Rattle.machine.specs.Progress.{advanced, first_state, progress};
 ghost use Rattle.machine.specs.Step.{State, step};
 ghost use Rattle.machine.specs.declared.place.Place.TheVariants.{Reg as InReg};
-ghost use Rattle.rv_step.specs.Harts.{hart_of, with_memory, LeadsIn};
-ghost use Rattle.rv_step.specs.Known.{goes_on, struck_progress, state_word, AreMade, IsMade, IsPart};
-ghost use Rattle.rv_step.specs.Reached.{AreWords};
-ghost use Rattle.rv_step.specs.Windows.{HasWords, IsHeld, IsKnown, IsTable, IsWindow};
+ghost use Rattle.rv_step.specs.Harts.{hart_state_of, with_memory, LeadsIn};
+ghost use Rattle.rv_step.specs.Known.{does_step, struck_progress, state_word, AreMade, IsRunMade, IsPart};
+ghost use Rattle.rv_step.specs.Reached.{IsRunOfWords};
+ghost use Rattle.rv_step.specs.Windows.{WindowHasWords, IsHeld, IsKnown, IsTable, IsWindow};
 
 use crate::decoder::Decoder;
 use crate::range::Ranges;
@@ -41,11 +41,11 @@ pub struct Hart {
 }
 
 impl Model for Hart {
-    ghost use Rattle.rv_step.specs.Harts.{HartState, hart_code};
+    ghost use Rattle.rv_step.specs.Harts.{HartState, hart_state_code};
 
     ghost Value = { HartState };
 
-    ghost coded = { hart_code };
+    ghost coded = { hart_state_code };
 
     ghost view = { λ h. record { regs = h.regs; pc = h.pc; ranges = h.ranges; outcome = h.outcome; steps = h.steps } };
 }
@@ -54,7 +54,7 @@ impl Hart {
     /// The hart that a file starts: the pc at the entry, the file's code ranges, and x0 at 0 whatever the first number
     /// is. It goes on, and no step was made.
     pub fn start(alloc: Global, file: &ElfFile, regs: &[u64; 32]) -> Result<Hart, AllocError>
-        ensures { IfOk result (λ hart. hart ≡ hart_of (begun (start (loaded_file file.now) regs.now))) }
+        ensures { IfOk result (λ hart. hart ≡ hart_state_of (first_state (start (loaded_file file.now) regs.now))) }
     {
         Ok(Hart {
             regs: Regs::new(regs),
@@ -115,9 +115,9 @@ impl Hart {
     /// Runs in a memory, and leaves the hart's own count; the answer has how many steps were made. If there are fewer,
     /// the hart stopped, or memory for a page ran out.
     fn run_uncounted(&mut self, image: &mut Image, n: u64) -> (u64, Result<(), AllocError>)
-        ensures made { IsMade (with_memory self.old image.old) result.0 (with_memory self.new image.new) }
+        ensures made { IsRunMade (with_memory self.old image.old) result.0 (with_memory self.new image.new) }
         ensures within { result.0 ≤ n }
-        ensures stopped { IfOk result.1 (λ _. result.0 < n → goes_on self.new.outcome ≡ false) }
+        ensures stopped { IfOk result.1 (λ _. result.0 < n → does_step self.new.outcome ≡ false) }
         ensures part { IfErr result.1 (λ _. result.0 < n) }
     {
         if n <= FEW {
@@ -135,9 +135,9 @@ impl Hart {
     /// Runs, with each word sought in a window. The answer: how many steps are left, so that the loop has one counter.
     #[inline(never)]
     fn run_few(&mut self, image: &mut Image, n: u64) -> (u64, Result<(), AllocError>)
-        ensures made { IsMade (with_memory self.old image.old) (n - result.0) (with_memory self.new image.new) }
+        ensures made { IsRunMade (with_memory self.old image.old) (n - result.0) (with_memory self.new image.new) }
         ensures within { result.0 ≤ n }
-        ensures stopped { IfOk result.1 (λ _. 0 < result.0 → goes_on self.new.outcome ≡ false) }
+        ensures stopped { IfOk result.1 (λ _. 0 < result.0 → does_step self.new.outcome ≡ false) }
         ensures part { IfErr result.1 (λ _. 0 < result.0) }
     {
         let window = Window::none();
@@ -148,9 +148,9 @@ impl Hart {
     /// Runs with a table of instructions, if there is memory for one. The answer has how many steps are left.
     #[inline(never)]
     fn run_long(&mut self, image: &mut Image, n: u64) -> (u64, Result<(), AllocError>)
-        ensures made { IsMade (with_memory self.old image.old) (n - result.0) (with_memory self.new image.new) }
+        ensures made { IsRunMade (with_memory self.old image.old) (n - result.0) (with_memory self.new image.new) }
         ensures within { result.0 ≤ n }
-        ensures stopped { IfOk result.1 (λ _. 0 < result.0 → goes_on self.new.outcome ≡ false) }
+        ensures stopped { IfOk result.1 (λ _. 0 < result.0 → does_step self.new.outcome ≡ false) }
         ensures part { IfErr result.1 (λ _. 0 < result.0) }
     {
         if self.pc % 4 != 0 {
@@ -173,9 +173,9 @@ impl Hart {
         n: u64,
     ) -> (u64, Result<(), AllocError>)
         requires { S.stands (with_memory self.old image.old).state source.old }
-        ensures made { IsMade (with_memory self.old image.old) (n - result.0) (with_memory self.new image.new) }
+        ensures made { IsRunMade (with_memory self.old image.old) (n - result.0) (with_memory self.new image.new) }
         ensures within { result.0 ≤ n }
-        ensures stopped { IfOk result.1 (λ _. 0 < result.0 → goes_on self.new.outcome ≡ false) }
+        ensures stopped { IfOk result.1 (λ _. 0 < result.0 → does_step self.new.outcome ≡ false) }
         ensures part { IfErr result.1 (λ _. 0 < result.0) }
     {
         if !self.goes_on() {
@@ -205,11 +205,11 @@ impl Hart {
         window: &mut Window,
         table: &mut Table,
     ) -> Result<bool, AllocError>
-        requires goes { goes_on self.old.outcome ≡ true }
+        requires goes { does_step self.old.outcome ≡ true }
         requires known { IsKnown (with_memory self.old image.old).state window.old table.old }
         ensures step { IfOk result (λ _. LeadsIn step self.old image.old self.new image.new) }
         ensures known { IfOk result (λ _. IsKnown (with_memory self.new image.new).state window.new table.new) }
-        ensures on { IfOk result (λ on. on ≡ true → goes_on self.new.outcome ≡ true) }
+        ensures on { IfOk result (λ on. on ≡ true → does_step self.new.outcome ≡ true) }
         ensures kept { IfErr result (λ _. self.new ≡ self.old) }
         ensures memory { IfErr result (λ _. image.new ≡ image.old) }
     {
@@ -227,7 +227,7 @@ impl Hart {
     /// The instruction at the pc, where the window has its word.
     #[inline(always)]
     fn held(&self, window: &Window) -> Option<Ins>
-        requires { HasWords window.now }
+        requires { WindowHasWords window.now }
         ensures { IfSome result (λ ins. (s : State) → IsWindow s window.now → IsHeld s self.now.pc ins) }
     {
         let word = window.word(self.pc)?;
@@ -237,7 +237,7 @@ impl Hart {
     /// Puts the instruction at the pc into the table, where the window has it.
     #[inline(never)]
     fn learn_next(&mut self, window: &Window, table: &mut Table)
-        requires { HasWords window.now }
+        requires { WindowHasWords window.now }
         ensures table { (s : State) → IsTable s table.old → IsWindow s window.now → IsTable s table.new }
         ensures same { self.new ≡ self.old }
     {
@@ -302,14 +302,14 @@ impl Hart {
 
     /// Whether the hart has not stopped.
     fn goes_on(&self) -> bool
-        ensures { result ≡ goes_on self.now.outcome }
+        ensures { result ≡ does_step self.now.outcome }
     {
         matches!(self.outcome, Outcome::Going)
     }
 
     /// The first and the last address of code words that are remembered. There are none where the last is the lesser.
     fn near(&self) -> (u64, u64)
-        ensures { AreWords self.now.ranges result.0 result.1 }
+        ensures { IsRunOfWords self.now.ranges result.0 result.1 }
     {
         self.ranges.near()
     }

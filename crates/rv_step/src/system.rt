@@ -5,7 +5,7 @@ ghost use Rattle.std.specs.FinMap.{get};
 ghost use Rattle.machine.specs.Program.{start};
 ghost use Rattle.machine.specs.Loading.{load_segments, loaded_file};
 ghost use Rattle.machine.specs.Step.{reg, fetched_at};
-ghost use Rattle.machine.specs.Progress.{advanced, begun, progress};
+ghost use Rattle.machine.specs.Progress.{advanced, first_state, progress};
 ghost use Rattle.machine.specs.Struck.{struck};
 ghost use Rattle.machine.specs.Apart.{AllFitMemory, AreApart};
 ghost use Rattle.rv_step.specs.Harts.{with_memory};

@@ -3,7 +3,7 @@ use Rattle.std.specs.Prelude.{◌≡◌, ℕ, ◌+◌, ◌*◌, ◌/◌, ◌&&�
 use Rattle.std.specs.Option.{option_map, option_or}
 use Rattle.tests.specs.declared.admit.AdmitError.{AdmitError}
 use Rattle.tests.specs.declared.admit.AdmitError.TheVariants as error
-use Rattle.machine.specs.Below.{first}
+use Rattle.machine.specs.Below.{first_below}
 use Rattle.machine.specs.Table.{decode_of, Ins}
 use Rattle.machine.specs.Step.{target}
 use Rattle.machine.specs.Offsets.{distance_between}
@@ -40,7 +40,7 @@ placed_word p k = (p.start + 4 * k, word_in p.bytes (4 * k))
 
 -- the first word of a part that is at fault: its address and the word
 abbrev pub first_in : CodeRule → Part → Option (ℕ × ℕ)
-first_in r p = option_map (placed_word p) (first (p.size / 4) (faults_at r p))
+first_in r p = option_map (placed_word p) (first_below (p.size / 4) (faults_at r p))
 
 -- the first of parts in their order
 abbrev pub first_among : CodeRule → List Part → Option (ℕ × ℕ)

@@ -9,7 +9,7 @@ ghost use Rattle.test_admission.specs.Checked.{IsChecked};
 ghost use Rattle.test_admission.specs.Made.{AllEnd};
 ghost use Rattle.test_admission.specs.declared.rules.CodeRule.TheVariants as rule;
 ghost use Rattle.test_admission.specs.Faults.{first_among};
-ghost use Rattle.test_admission.specs.Stretches.{parts_of, AreCodeOf};
+ghost use Rattle.test_admission.specs.Stretches.{stretch_parts, AreCodeOf};
 
 use crate::check::TestParts;
 use crate::places::distance;
@@ -64,8 +64,8 @@ fn image(alloc: Global, segments: &[Segment]) -> Result<Segments, AllocError>
 /// All code words of a file.
 #[tactic(auto, using(crate::proofs::Faulting::follow_fit, crate::proofs::Listing::are_words))]
 fn word_list(alloc: Global, file: &ElfFile, code: &[Stretch<'_>]) -> Result<CodeWords, AllocError>
-    requires code { AreCodeOf file.now (parts_of code.now) }
-    requires known { first_among rule.Unknown (parts_of code.now) ≡ None }
+    requires code { AreCodeOf file.now (stretch_parts code.now) }
+    requires known { first_among rule.Unknown (stretch_parts code.now) ≡ None }
     ensures { IfOk result (AreCodeWords file.now) }
 {
     let words = code_words(alloc, code)?;

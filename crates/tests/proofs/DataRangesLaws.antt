@@ -5,7 +5,7 @@ use Rattle.std.proofs.Math.Bool.{or_assoc}
 use Rattle.std.proofs.lemmas.Bool.Decides.{nat_tests}
 use Rattle.std.proofs.lemmas.Bool.{leb-true, ltb-true, ltb-false, and_parts, and_from, le-leb, lt-ltb, false≢true}
 use Rattle.std.proofs.lemmas.List.{get_or_default}
-use Rattle.tests.specs.Admission.DataRanges.{Segment, rounded, data_segments, data_parts, is_in, is_in_any, AreJoined, join, joined, data_ranges}
+use Rattle.tests.specs.Admission.DataRanges.{Segment, rounded, data_segments, data_parts, is_in, is_in_any, AreJoined, join, joined_ranges, data_ranges}
 use Rattle.machine.proofs.Lemmas.{passing, any_passing, none_passing, among_every, every_all, pairs_all}
 use Rattle.machine.specs.Members.{Among, Pairs}
 
@@ -75,17 +75,17 @@ in_any-join q low r (t ∷ ts) s h =
       ] refl
     ] refl
 
-pub spaced-joined : (rs : List (ℕ × ℕ)) → AllSome rs → Spaced 0 (joined rs)
+pub spaced-joined : (rs : List (ℕ × ℕ)) → AllSome rs → Spaced 0 (joined_ranges rs)
 spaced-joined [] h = tt
-spaced-joined (r ∷ rs) h = spaced-join 0 r (joined rs) (omega arith) h.0 (spaced-joined rs h.1)
+spaced-joined (r ∷ rs) h = spaced-join 0 r (joined_ranges rs) (omega arith) h.0 (spaced-joined rs h.1)
 
-pub aligned-joined : (rs : List (ℕ × ℕ)) → AllAligned rs → AllAligned (joined rs)
+pub aligned-joined : (rs : List (ℕ × ℕ)) → AllAligned rs → AllAligned (joined_ranges rs)
 aligned-joined [] h = tt
-aligned-joined (r ∷ rs) h = aligned-join r (joined rs) h.0 h.1 (aligned-joined rs h.2)
+aligned-joined (r ∷ rs) h = aligned-join r (joined_ranges rs) h.0 h.1 (aligned-joined rs h.2)
 
-pub in_any-joined : (q : ℕ) (rs : List (ℕ × ℕ)) → AllSome rs → is_in_any (joined rs) q ≡ is_in_any rs q
+pub in_any-joined : (q : ℕ) (rs : List (ℕ × ℕ)) → AllSome rs → is_in_any (joined_ranges rs) q ≡ is_in_any rs q
 in_any-joined q [] h = refl
-in_any-joined q (r ∷ rs) h = in_any-join q 0 r (joined rs) h.0 (spaced-joined rs h.1) ∙ ap (λ b. is_in r q || b) (in_any-joined q rs h.1)
+in_any-joined q (r ∷ rs) h = in_any-join q 0 r (joined_ranges rs) h.0 (spaced-joined rs h.1) ∙ ap (λ b. is_in r q || b) (in_any-joined q rs h.1)
 
 -- ---- addresses of ranges
 pub in_from : (r : ℕ × ℕ) (q : ℕ) → r.0 ≤ q → q < r.1 → is_in r q ≡ true
@@ -140,10 +140,10 @@ gaps-spaced : (low : ℕ) (rs : List (ℕ × ℕ)) → Spaced low rs → AllPair
 gaps-spaced low rs s = pairs_all (λ r t. r.1 < t.0) rs (gap_pairs low rs s)
 
 -- so joined ranges are what the sentences say
-pub are_joined : (parts : List (ℕ × ℕ)) → AllSome parts → AreJoined parts (joined parts)
+pub are_joined : (parts : List (ℕ × ℕ)) → AllSome parts → AreJoined parts (joined_ranges parts)
 are_joined parts h =
     let s = spaced-joined parts h in
-    record { some = some-spaced 0 (joined parts) s; gaps = gaps-spaced 0 (joined parts) s; same = λ q. in_any-joined q parts h }
+    record { some = some-spaced 0 (joined_ranges parts) s; gaps = gaps-spaced 0 (joined_ranges parts) s; same = λ q. in_any-joined q parts h }
 
 -- ---- there is one such list
 -- the sentences give the form
@@ -294,8 +294,8 @@ inside-join r (t ∷ ts) =
       ]
     ]
 
-pub inside-joined : (rs : List (ℕ × ℕ)) (p : ℕ × ℕ) → Among p rs → Inside (joined rs) p
+pub inside-joined : (rs : List (ℕ × ℕ)) (p : ℕ × ℕ) → Among p rs → Inside (joined_ranges rs) p
 inside-joined [] p m = absurd m
 inside-joined (r ∷ rs) p m =
-    let step = inside-join r (joined rs) in
-    ⊎_elim (λ e. subst (Inside (join r (joined rs))) (sym e) step.0) (λ k. step.1 p (inside-joined rs p k)) m
+    let step = inside-join r (joined_ranges rs) in
+    ⊎_elim (λ e. subst (Inside (join r (joined_ranges rs))) (sym e) step.0) (λ k. step.1 p (inside-joined rs p k)) m

@@ -1,5 +1,6 @@
 -- Names as they are printed: no control character reaches a terminal, and no name begins a line.
-use Rattle.std.specs.Prelude.{ℕ, zero, suc, nat_le, ◌||◌, ◌&&◌, ◌==◌, Bool, if◌then◌else◌, Option, Some, None, List, [], ◌∷◌, ◌++◌, take, drop, codes, encode_utf8}
+use Rattle.std.specs.Prelude.{ℕ, zero, suc, nat_le, ◌||◌, ◌&&◌, ◌==◌, Bool, if◌then◌else◌, Option, Some, None, List, [], ◌∷◌, ◌++◌, take, drop, codes}
+use Rattle.std.specs.Prelude.{encode_utf8}
 use Rattle.bstr.specs.Utf8.{decoded}
 use Rattle.texts.specs.Printed.{hex_digits}
 

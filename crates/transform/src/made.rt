@@ -8,7 +8,7 @@ ghost use Rattle.tests.specs.Files.File.{IsReadAs};
 ghost use Rattle.machine.specs.Apart.{AllFitMemory, AreApart};
 ghost use Rattle.machine.specs.Loading.{load_segments};
 ghost use Rattle.weave.specs.Code.{IsCut};
-ghost use Rattle.transform.specs.Made.{code_for, IsCoded, IsMade, Exceeds};
+ghost use Rattle.transform.specs.Made.{code_for, IsCoded, IsMadeFile, Exceeds};
 ghost use Rattle.transform.specs.Transform.{HasCause};
 
 use crate::code::Coded;
@@ -64,7 +64,7 @@ pub(crate) fn make(alloc: Global, cut: &CutTest, code: &Coded) -> Result<Made, T
     requires coded { (o : TestOptions) × IsCut cut.now.file o cut.now.test cut.now.blocks
         × IsCoded (code_for cut.now.file o cut.now.blocks) cut.now.file o code.now }
     ensures made { IfOk result (λ made. (o : TestOptions) → IsCut cut.now.file o cut.now.test cut.now.blocks
-        → IsCoded (code_for cut.now.file o cut.now.blocks) cut.now.file o code.now → IsMade cut.now.file o cut.now.blocks made.out made.plan) }
+        → IsCoded (code_for cut.now.file o cut.now.blocks) cut.now.file o code.now → IsMadeFile cut.now.file o cut.now.blocks made.out made.plan) }
     ensures refused { IfErr result (λ e. (o : TestOptions) (input : List ℕ)
         → IsReadAs input cut.now.file → IsCut cut.now.file o cut.now.test cut.now.blocks
         → IsCoded (code_for cut.now.file o cut.now.blocks) cut.now.file o code.now → HasCause input o e) }

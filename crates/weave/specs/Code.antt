@@ -48,6 +48,6 @@ pub record IsWoven (c : NewCode) (f : ElfFile) (o : Options) (t : Test)
   pub bounds : kind.bounds (shape_of f o c.far) ≡ c.bounds
 
 -- the new code has n bytes, which is too many
-abbrev pub HasCause : NewCode → LinkError → Type 0
-HasCause c (error.TooLarge n) = (n ≡ size_of_code c) × (limit_of c.limit < n)
-HasCause c error.Memory = Unit {0}
+abbrev pub HasCodeCause : NewCode → LinkError → Type 0
+HasCodeCause c (error.TooLarge n) = (n ≡ size_of_code c) × (limit_of c.limit < n)
+HasCodeCause c error.Memory = Unit {0}

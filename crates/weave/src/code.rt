@@ -11,7 +11,7 @@ ghost use Rattle.relinker.specs.Link.{IsWithinForm, LinksWithin};
 ghost use Rattle.weave.specs.Fits.{FitsBlock};
 ghost use Rattle.weave.specs.Form.{code_to_stub, form, form_with, kind};
 ghost use Rattle.plc_rounds.specs.Spans.{spans_of};
-ghost use Rattle.weave.specs.Code.{items_of, code_begin, IsCut, IsWoven, HasCause};
+ghost use Rattle.weave.specs.Code.{items_of, code_begin, IsCut, IsWoven, HasCodeCause};
 
 use crate::count::counted_by_blocks;
 use crate::size::code_size;
@@ -161,7 +161,7 @@ pub fn woven_code(
         → IsWoven (compared f options.now (map block_of blocks.now)) f options.now test.now blocks.now
         (kind woven.weaver) (parts (form woven.weaver)) (λ b. Unit {0}) woven.linked) }
     ensures cause { IfErr result (λ e. (f : ElfFile)
-        → IsCut f options.now test.now blocks.now → HasCause (compared f options.now (map block_of blocks.now)) e) }
+        → IsCut f options.now test.now blocks.now → HasCodeCause (compared f options.now (map block_of blocks.now)) e) }
 {
     let far = is_far(test, options, blocks);
     code_in(alloc, test, options, blocks, far)

@@ -11,7 +11,7 @@ use Rattle.weave_core.specs.World.{Item, Plain, Ended, World, Twice, State, reg,
 use Rattle.weave_core.specs.Rows.{Sourced}
 use Rattle.weave_core.specs.Blocks.{IsEntryOf, Goes, Leaves}
 use Rattle.weave_core.specs.Pass.{Views}
-use Rattle.weave_core.specs.WeaveLaws.{Swept, Ends, Onward}
+use Rattle.weave_core.specs.WeaveLaws.{Swept, BothEnded, Onward}
 
 -- ---- the entry
 -- both halves are those of one state of the input, whose pc has its entry here, and the signature is that pc
@@ -74,7 +74,7 @@ Signs u a = reg u SIGNATURE ≡ a
 -- an ECALL ends; a fall leads to the entry where the input is, if there is code; so does any other end, in at least one
 -- step, to where the input is behind it
 abbrev pub LeftAs : Class → World → Views → ℕ → Views → Type 0
-LeftAs class.End w v n z = Ends w (step v.original) z.now × Twice w z.now v.original v.original × (1 ≤ n)
+LeftAs class.End w v n z = BothEnded w (step v.original) z.now × Twice w z.now v.original v.original × (1 ≤ n)
 LeftAs class.Compute w v n z = Onward w v.leads Signs v.original z.now
 LeftAs _ w v n z = Onward w v.leads Signs (step v.original) z.now × (1 ≤ n)
 

@@ -16,8 +16,8 @@ pub record Views : Type 0 where
   pub leads : ℕ → Bool
 
 -- the items stand where the output goes on, and both halves are those of the views
-abbrev pub Stands : World → Views → List Item → Type 0
-Stands w v items = At w v.now items v.original v.shadow
+abbrev pub StandsAt : World → Views → List Item → Type 0
+StandsAt w v items = At w v.now items v.original v.shadow
 
 -- ---- what a pass does: from views, in some steps, to views
 -- one after another, the first in at most `most` steps, in which v runs to the middle
@@ -47,8 +47,8 @@ pub record Does (w : World) (f g : State → State) (least : ℕ) (v : Views) (n
   pub leads : z.leads ≡ v.leads
 
 -- the state itself
-abbrev pub same : State → State
-same s = s
+abbrev pub same_state : State → State
+same_state s = s
 
 -- ---- Quiet
 -- in at most `most` quiet steps: to behind the items, as `gives` says, or elsewhere, as `leaves` says
@@ -57,12 +57,12 @@ pub record Leads (w : World) (v : Views) (most : ℕ) (rest : List Item) (gives 
   pub to : Views
   pub within : steps ≤ most
   pub walk : Walk (Calm w) v.now steps to.now
-  pub ends : (Stands w to rest × gives steps to) ⊎ leaves steps to
+  pub ends : (StandsAt w to rest × gives steps to) ⊎ leaves steps to
 
 -- in each world that suits, from where the items stand and what is needed holds
 pub record Quiet (suits : Bool → Type 0) (items : List Item) (needs : World → Views → Type 0)
     (gives leaves : World → Views → ℕ → Views → Type 0) (most : ℕ) : Type 0 where
-  pub leads : (w : World) (v : Views) (rest : List Item) → suits w.form.far → Stands w v (items ++ rest) → needs w v
+  pub leads : (w : World) (v : Views) (rest : List Item) → suits w.form.far → StandsAt w v (items ++ rest) → needs w v
       → Leads w v most rest (gives w v) (leaves w v)
 
 -- ---- Lockstep

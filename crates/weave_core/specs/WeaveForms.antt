@@ -8,7 +8,7 @@ use Rattle.qed_model.specs.Weave.Sequences.{Form, original, each_part, compare, 
 use Rattle.qed_model.specs.Weave.Code.{sequences}
 use Rattle.weave_core.specs.World.{Item, World, IsCursor, is_cursor, State, reg}
 use Rattle.weave_core.specs.Pass.{Quiet, Lockstep}
-use Rattle.weave_core.specs.Parts.{any, Checks}
+use Rattle.weave_core.specs.Parts.{any, ChecksMade}
 use Rattle.weave_core.specs.Weave.{Weave}
 
 -- the signature is an input address, and the cursor is at a word
@@ -41,5 +41,5 @@ weave_of form most = weave_with form most (compare ++ visit form.round form.span
 -- what is asked of others: the laws of a pass that, where both halves are equal, makes the checks of a round
 pub record ChecksLaws (form : Form) (checks : List Item) (first steps : ℕ) : Type 0 where
   pub quiet : Quiet any checks (λ w v. (v.original ≡ v.shadow) × (w.form ≡ form) × IsCursor w.form.spans (reg v.now CURSOR))
-      (λ w. Checks w first form.round) (λ w v n z. ⊥) steps
+      (λ w. ChecksMade w first form.round) (λ w v n z. ⊥) steps
   pub lockstep : Lockstep any [] checks

@@ -6,7 +6,8 @@ use Rattle.qed_model.specs.Promise.Kept.{NotTrapped, IsSteady}
 use Rattle.qed_model.specs.Promise.Changed.{IsDataWord}
 use Rattle.qed_model.specs.Weave.Halves.{Flagged}
 use Rattle.qed_model.specs.Weave.Sequences.{Reads, End, Falls, Stops, Block, body_length, Ins, ORIGINALS, LAST_ORIGINAL, CURSOR, SIGNATURE}
-use Rattle.weave_core.specs.World.{Item, Going, Ended, Fired, World, Quiet, Twice, IsCursor, words_on, get, byte_at, State, reg, Known, HasAt, run, Program, start, zeros, AreStartRegs}
+use Rattle.weave_core.specs.World.{Item, Going, Ended, Fired, World, Quiet, Twice, IsCursor, words_on, get, byte_at, State, reg, Known, HasAt, run, Program}
+use Rattle.weave_core.specs.World.{start, zeros, AreStartRegs}
 use Rattle.weave_core.specs.Blocks.{AllFit, Full, EndStands, IsEntryOf}
 use Rattle.weave_core.specs.Rows.{At, Sourced}
 use Rattle.weave_core.specs.Describes.{Describes}
@@ -120,7 +121,7 @@ stops (Stops i) = 1
 
 -- ---- behind a leave, where the input is in t
 -- the test has ended, with the input's values in both halves
-pub record Ends (w : World) (t x : State) : Type 0 where
+pub record BothEnded (w : World) (t x : State) : Type 0 where
   pub ended : x.outcome ≡ Ended
   pub halved : Twice w x t t
   pub input : t.outcome ≡ Ended
@@ -133,7 +134,7 @@ pub data Onward (w : World) (leader : ℕ → Bool) (held : State → ℕ → Ty
 -- either
 abbrev pub Left : World → Weave → (ℕ → Bool) → State → State → ℕ → Type 0
 Left w v leader u t least =
-    GoesTo w u 1 (v.leave_steps + v.end_steps) (λ n x. Ends w t x) ⊎ GoesTo w u least v.leave_steps (λ n x. Onward w leader (λ y a. v.held w y a ≡ true) t x)
+    GoesTo w u 1 (v.leave_steps + v.end_steps) (λ n x. BothEnded w t x) ⊎ GoesTo w u least v.leave_steps (λ n x. Onward w leader (λ y a. v.held w y a ≡ true) t x)
 
 -- ---- the laws of the rows: where each sequence leads
 pub record Rows (w : World) (v : Weave) (leader : ℕ → Bool) : Type 0 where

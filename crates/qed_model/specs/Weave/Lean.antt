@@ -6,10 +6,12 @@
 use Rattle.std.specs.Prelude.{ℕ, ◌+◌, ◌-◌, ◌%◌, ◌^◌, Bool, true, false, cond, ◌==◌, nat_lt, max, List, [], ◌∷◌, ◌++◌, ℤ, pos, neg_ℤ}
 use Rattle.rv_isa.specs.declared.class.Class.TheVariants as class
 use Rattle.machine.specs.Values.{wrapped}
-use Rattle.machine.specs.Step.{Ins, Lui, Addi, Andi, Slli, Srli, Add, Sub, Beq, Bne, Blt, Bge, Bltu, Bgeu, Jal, Jalr, Lw, Ebreak, Kind, ins, class_of, Class, target}
+use Rattle.machine.specs.Step.{Ins, Lui, Addi, Andi, Slli, Srli, Add, Sub, Beq, Bne, Blt, Bge, Bltu, Bgeu, Jal, Jalr, Lw, Ebreak, Kind, ins, class_of, Class}
+use Rattle.machine.specs.Step.{target}
 use Rattle.machine.specs.Offsets.{distance_between, upper_part, lower_part}
 use Rattle.qed_model.specs.Weave.Placed.{sum_of_sizes}
-use Rattle.qed_model.specs.Weave.Sequences.{Mark, Plain, Constant, Go, Item, pair, End, Falls, Stops, fired_check, guard, check_sign, compare, visit, links, zero_from, ORIGINALS, DISTANCE, CURSOR, SIGNATURE, TEMPORARY, SPARE}
+use Rattle.qed_model.specs.Weave.Sequences.{Mark, Plain, Constant, Go, Item, pair, End, Falls, Stops, fired_check, guard, check_sign, compare, visit, links}
+use Rattle.qed_model.specs.Weave.Sequences.{zero_from, ORIGINALS, DISTANCE, CURSOR, SIGNATURE, TEMPORARY, SPARE}
 
 -- ---- the tick
 -- what x30 has to have where the check begins: with the option `land` it has it already

@@ -5,13 +5,15 @@ use Rattle.qed_model.specs.declared.role.Role.{Role}
 use Rattle.qed_model.specs.declared.role.Role.TheVariants as role
 use Rattle.qed_model.specs.Weave.Blocks.{Options, ElfFile, begins_at}
 use Rattle.qed_model.specs.Weave.Forms.{mirror_of, form_of}
-use Rattle.qed_model.specs.Weave.Lean.{tick, call_at, first_word, check_distance, called, begun, done, look_up, look_again, guard_address, guard_value, mirrored_store, leave_as, leave, begin}
+use Rattle.qed_model.specs.Weave.Lean.{tick, call_at, first_word, check_distance, called, begun, done, look_up, look_again, guard_address, guard_value}
+use Rattle.qed_model.specs.Weave.Lean.{mirrored_store, leave_as, leave, begin}
 use Rattle.qed_model.specs.Weave.LeanCode.{Lean, is_store, fall_words, lean_of, items_with}
 use Rattle.tests.specs.Admission.Places.{base_of, image_of, half_of, code_place}
 use Rattle.machine.specs.Offsets.{distance_between}
 use Rattle.qed_model.specs.Weave.Placed.{entry_of}
 use Rattle.qed_model.specs.Weave.Parts.{Parts, each_parts, code_parts}
-use Rattle.qed_model.specs.Weave.Sequences.{Mark, Plain, Item, class_of, Class, Ins, Form, Block, End, Falls, Stops, check_sign, compare, visit, original, before_end, SIGNATURE}
+use Rattle.qed_model.specs.Weave.Sequences.{Mark, Plain, Item, class_of, Class, Ins, Form, Block, End, Falls, Stops, check_sign, compare, visit, original}
+use Rattle.qed_model.specs.Weave.Sequences.{before_end, SIGNATURE}
 
 -- what runs first, and the check
 abbrev pub first_parts : Form → ℕ → Lean → ℕ → ℕ → List (Role × List Item)

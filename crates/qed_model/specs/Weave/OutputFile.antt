@@ -1,6 +1,7 @@
 -- What the output of any test holds: segments, sections and symbols, made of those of the input. Names and numbers are
 -- those of the ELF gABI.
-use Rattle.std.specs.Prelude.{ℕ, ◌+◌, ◌-◌, ◌*◌, ◌/◌, max, Bool, false, nat_lt, not, if◌then◌else◌, Option, Some, None, List, [], ◌∷◌, ◌++◌, length, map, filter, flat_map, codes}
+use Rattle.std.specs.Prelude.{ℕ, ◌+◌, ◌-◌, ◌*◌, ◌/◌, max, Bool, false, nat_lt, not, if◌then◌else◌, Option, Some, None, List, [], ◌∷◌, ◌++◌, length, map}
+use Rattle.std.specs.Prelude.{filter, flat_map, codes}
 use Rattle.std.specs.List.{list_any}
 use Rattle.elf_types.specs.declared.output.OutFile.{OutFile}
 use Rattle.elf_types.specs.declared.output.OutSection.{OutSection}
@@ -12,7 +13,7 @@ use Rattle.machine.specs.Below.{each, gather}
 use Rattle.machine.specs.Loading.{load_segments}
 use Rattle.machine.specs.Cells.{byte_among}
 use Rattle.tests.specs.Admission.DataRanges.{is_written, is_data, data_segments, data_ranges, is_in}
-use Rattle.tests.specs.Admission.Places.{Segment, ElfFile, image_of, half_of, code_place, in_order}
+use Rattle.tests.specs.Admission.Places.{Segment, ElfFile, image_of, half_of, code_place, by_address}
 pub use Rattle.qed_model.specs.Weave.OutputParts.{shifted}
 use Rattle.qed_model.specs.Weave.OutputParts.{copies, code_segment, text_section, map_section, out_symbols}
 use Rattle.qed_model.specs.Weave.Placed.{entry_at}
@@ -48,7 +49,7 @@ other_segments image = filter (λ s. not (is_data image s)) image
 
 -- the original half: the others without PF_X, and the data ranges
 abbrev pub original_half : List Segment → List Segment
-original_half image = in_order (copies 0 (other_segments image) ++ map (range_segment image) (data_ranges image))
+original_half image = by_address (copies 0 (other_segments image) ++ map (range_segment image) (data_ranges image))
 
 -- both halves
 abbrev pub halves : ℕ → List Segment → List Segment

@@ -8,7 +8,8 @@ use Rattle.qed_model.specs.declared.role.Role.{Role}
 use Rattle.qed_model.specs.declared.role.Role.TheVariants as role
 use Rattle.qed_model.specs.declared.role.RoleRow.{RoleRow}
 use Rattle.qed_model.specs.Weave.Placed.{size_of}
-use Rattle.qed_model.specs.Weave.Sequences.{Mark, Plain, Item, class_of, Class, Ins, Form, Block, End, Falls, Stops, compare, check_sign, visit, original, before_end, leave_as, leave, body_length, prologue, stub}
+use Rattle.qed_model.specs.Weave.Sequences.{Mark, Plain, Item, class_of, Class, Ins, Form, Block, End, Falls, Stops, compare, check_sign, visit, original}
+use Rattle.qed_model.specs.Weave.Sequences.{before_end, leave_as, leave, body_length, prologue, stub}
 use Rattle.qed_model.specs.Weave.Code.{Sequences}
 
 -- ---- parts

@@ -1,6 +1,7 @@
 -- The data of a test: which segments have it, and the ranges of aligned words that they make up. Ranges are by their
 -- first address and the one behind their last. The form is this project's own.
-use Rattle.std.specs.Prelude.{◌≡◌, ◌↔◌, if◌then◌else◌, ℕ, ◌+◌, ◌-◌, ◌*◌, ◌/◌, ◌<◌, Bool, nat_lt, ◌&&◌, ◌||◌, not, min, max, cond, List, [], ◌∷◌, map, filter, All, AllPairs}
+use Rattle.std.specs.Prelude.{◌≡◌, ◌↔◌, if◌then◌else◌, ℕ, ◌+◌, ◌-◌, ◌*◌, ◌/◌, ◌<◌, Bool, nat_lt, ◌&&◌, ◌||◌, not, min, max, cond, List, [], ◌∷◌, map, filter}
+use Rattle.std.specs.Prelude.{All, AllPairs}
 use Rattle.std.specs.List.{list_any}
 pub use Rattle.elf_types.specs.declared.file.Segment.{Segment}
 pub use Rattle.elf_types.specs.declared.file.ElfFile.{ElfFile}
@@ -58,13 +59,13 @@ abbrev pub join : ℕ × ℕ → List (ℕ × ℕ) → List (ℕ × ℕ)
 join r [] = r ∷ []
 join r (t ∷ ts) = cond (nat_lt r.1 t.0) (r ∷ t ∷ ts) (cond (nat_lt t.1 r.0) (t ∷ join r ts) (join (min r.0 t.0, max r.1 t.1) ts))
 
-abbrev pub joined : List (ℕ × ℕ) → List (ℕ × ℕ)
-joined [] = []
-joined (r ∷ rs) = join r (joined rs)
+abbrev pub joined_ranges : List (ℕ × ℕ) → List (ℕ × ℕ)
+joined_ranges [] = []
+joined_ranges (r ∷ rs) = join r (joined_ranges rs)
 
 -- the data ranges of an image; N is how many they are
 abbrev pub data_ranges : List Segment → List (ℕ × ℕ)
-data_ranges image = joined (data_parts image)
+data_ranges image = joined_ranges (data_parts image)
 
 -- the data ranges of a file are the one list of ranges that its parts are joined to
 abbrev pub DataRangesAreJoined : Type 0

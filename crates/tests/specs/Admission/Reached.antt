@@ -86,8 +86,8 @@ adds_to register i = is_sum i.kind && (i.rs1 == register)
 abbrev pub sum_leads : Test → ℕ → ℕ → ℕ → CodeWord → Bool
 sum_leads t register value a d = adds_to register d.ins && leads t (target d.ins value) a
 
-unfoldable pub once : Test → List CodeWord → ℕ → ℕ → ℕ → Bool
-once t near register value a = leads t value a || list_any (sum_leads t register value a) near
+unfoldable pub one_pass : Test → List CodeWord → ℕ → ℕ → ℕ → Bool
+one_pass t near register value a = leads t value a || list_any (sum_leads t register value a) near
 
 -- the words near by that may use a register: of x0, which holds no value, none
 abbrev pub users : ℕ → List CodeWord → List CodeWord
@@ -99,7 +99,7 @@ near_by t near register = cond (register == 3) t.code (users register near)
 
 -- a register's value leads to the address with the immediate of a word near by, or also with that of a second one
 abbrev pub sums_lead : Test → List CodeWord → ℕ → ℕ → ℕ → CodeWord → Bool
-sums_lead t near register value a d = adds_to register d.ins && once t (near_by t near d.ins.rd) d.ins.rd (target d.ins value) a
+sums_lead t near register value a d = adds_to register d.ins && one_pass t (near_by t near d.ins.rd) d.ins.rd (target d.ins value) a
 
 unfoldable pub twice : Test → List CodeWord → ℕ → ℕ → ℕ → Bool
 twice t near register value a = leads t value a || list_any (sums_lead t near register value a) near

@@ -9,7 +9,8 @@ use Rattle.machine.specs.Below.{IsFirstBelow}
 use Rattle.tests.specs.Admission.Places.{base_of, high_of, distance_of, Options, ElfFile, image_of, half_of, code_place}
 use Rattle.tests.specs.Admission.Terms.{is_compressed, is_dynamic}
 use Rattle.tests.specs.Admission.CodeWords.{loads_of, is_code, word_at, AreCodeAddresses}
-use Rattle.tests.specs.Admission.Rules.{passes_at, is_writable_code, is_misshapen_section, is_misshapen_segment, is_unknown, high_at, is_breakpoint, is_far_constant, is_mixed}
+use Rattle.tests.specs.Admission.Rules.{passes_at, is_writable_code, is_misshapen_section, is_misshapen_segment, is_unknown, high_at, is_breakpoint}
+use Rattle.tests.specs.Admission.Rules.{is_far_constant, is_mixed}
 
 -- ---- a part at fault
 -- number i is the first member of a list that passes a test

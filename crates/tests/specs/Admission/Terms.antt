@@ -1,7 +1,8 @@
 -- Rules by which tests are admitted, and what names a code address: sentences on the segments, sections, symbols and
 -- relocations of a file that was read. Sums are over whole numbers and do not wrap. Ranges are by their first address
 -- and the one behind their last; code ranges are those of `code_ranges`.
-use Rattle.std.specs.Prelude.{ℕ, ◌+◌, ◌-◌, ◌%◌, ◌^◌, ◌==◌, ◌&&◌, ◌||◌, not, nat_lt, nat_le, if◌then◌else◌, Bool, Option, Some, None, List, [], ◌∷◌, filter, slice_get}
+use Rattle.std.specs.Prelude.{ℕ, ◌+◌, ◌-◌, ◌%◌, ◌^◌, ◌==◌, ◌&&◌, ◌||◌, not, nat_lt, nat_le, if◌then◌else◌, Bool, Option, Some, None, List, [], ◌∷◌, filter}
+use Rattle.std.specs.Prelude.{slice_get}
 use Rattle.std.specs.List.{list_any}
 use Rattle.std.specs.Option.{option_map, option_or}
 use Rattle.rv_isa.specs.declared.profile.TheConstants.{LAST_ORIGINAL}

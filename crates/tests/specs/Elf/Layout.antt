@@ -1,5 +1,6 @@
 -- The written file: its parts in order, and their places. Names are of the ELF gABI; offsets are in bytes from 0.
-use Rattle.std.specs.Prelude.{◌≡◌, ◌≢◌, ℕ, ◌+◌, ◌-◌, ◌*◌, ◌/◌, ◌^◌, ◌<◌, ◌≤◌, ◌==◌, Bool, true, false, nat_le, ◌&&◌, if◌then◌else◌, IsTrue, List, [], ◌∷◌, ◌++◌, length, map, replicate, All, AllPairs}
+use Rattle.std.specs.Prelude.{◌≡◌, ◌≢◌, ℕ, ◌+◌, ◌-◌, ◌*◌, ◌/◌, ◌^◌, ◌<◌, ◌≤◌, ◌==◌, Bool, true, false, nat_le, ◌&&◌, if◌then◌else◌, IsTrue, List, [], ◌∷◌}
+use Rattle.std.specs.Prelude.{◌++◌, length, map, replicate, All, AllPairs}
 use Rattle.std.specs.List.{list_any}
 use Rattle.elf_types.specs.declared.file.Segment.{Segment}
 use Rattle.elf_types.specs.declared.file.Symbol.{Symbol}
@@ -10,7 +11,8 @@ use Rattle.elf_types.specs.declared.records.SymbolEntry.{SymbolEntry}
 use Rattle.machine.specs.declared.limits.Limit.TheVariants as limit
 use Rattle.machine.specs.declared.limits.TheConstants.{MAX_OUTPUT_SECTIONS}
 use Rattle.machine.specs.Limits.{limit_of}
-use Rattle.elf_types.specs.declared.abi.TheConstants.{ELFMAG, ELFCLASS64, ELFDATA2LSB, EV_CURRENT, ET_EXEC, EM_RISCV, EHDR_SIZE, PHDR_SIZE, SHDR_SIZE, PT_LOAD, SHT_NULL, SHT_PROGBITS, SHT_SYMTAB, SHT_STRTAB}
+use Rattle.elf_types.specs.declared.abi.TheConstants.{ELFMAG, ELFCLASS64, ELFDATA2LSB, EV_CURRENT, ET_EXEC, EM_RISCV, EHDR_SIZE, PHDR_SIZE, SHDR_SIZE}
+use Rattle.elf_types.specs.declared.abi.TheConstants.{PT_LOAD, SHT_NULL, SHT_PROGBITS, SHT_SYMTAB, SHT_STRTAB}
 use Rattle.elf_types.specs.Abi.{has_alloc}
 use Rattle.elf_types.specs.Symbol.{is_local}
 use Rattle.elf_types.specs.Overlap.{share_byte}
@@ -78,8 +80,8 @@ abbrev pub null_entry : SymbolEntry
 null_entry = record { name = 0; info = 0; other = 0; index = 0; value = 0; size = 0 }
 
 -- the null symbol and then the given ones, whose names begin behind the first zero byte
-abbrev pub entries_of : List Symbol → List SymbolEntry
-entries_of symbols = null_entry ∷ entries_from 1 symbols
+abbrev pub symbol_entries : List Symbol → List SymbolEntry
+symbol_entries symbols = null_entry ∷ entries_from 1 symbols
 
 -- the number of the first symbol that is not STB_LOCAL, or the number of symbols; `number` counts those before the list
 abbrev pub first_global : ℕ → List Symbol → ℕ
@@ -164,12 +166,12 @@ null_header = table_header 0 0 0 0 0 0 0
 
 -- ---- where the parts stand
 -- behind the header and the program headers
-abbrev pub start_of : OutFile → ℕ
-start_of f = 64 + 56 * length f.segments
+abbrev pub parts_start : OutFile → ℕ
+parts_start f = 64 + 56 * length f.segments
 
 -- behind the segments
 unfoldable pub own_place : OutFile → ℕ
-own_place f = end_from (start_of f) f.segments
+own_place f = end_from (parts_start f) f.segments
 
 -- the symbol table
 unfoldable pub symbols_place : OutFile → ℕ
@@ -210,7 +212,7 @@ table_headers f = symtab_header f ∷ strtab_header f ∷ shstrtab_header f ∷ 
 
 -- the null section, the given sections, and the tables that are added
 unfoldable pub headers_of : OutFile → List SectionHeader
-headers_of f = null_header ∷ (headers_from (start_of f) f.segments 1 (own_place f) f.sections ++ table_headers f)
+headers_of f = null_header ∷ (headers_from (parts_start f) f.segments 1 (own_place f) f.sections ++ table_headers f)
 
 -- magic, class, encoding, version, padding; type, machine, version, entry, phoff, shoff, flags; ehsize, phentsize,
 -- phnum; shentsize, shnum, shstrndx
@@ -229,7 +231,7 @@ unfoldable pub tables_bytes : OutFile → List ℕ
 tables_bytes f =
     own_bytes f.sections
     ++ (replicate (symbols_place f - (own_place f + length (own_bytes f.sections))) 0
-    ++ (symbols_bytes (entries_of f.symbols)
+    ++ (symbols_bytes (symbol_entries f.symbols)
     ++ (string_table (symbol_names f.symbols)
     ++ (string_table (section_names f.sections)
     ++ (replicate (headers_place f - (names_place f + length (string_table (section_names f.sections)))) 0
@@ -239,8 +241,8 @@ tables_bytes f =
 unfoldable pub written : OutFile → List ℕ
 written f =
     file_header f
-    ++ (program_headers (start_of f) f.segments
-    ++ (segments_bytes (start_of f) f.segments
+    ++ (program_headers (parts_start f) f.segments
+    ++ (segments_bytes (parts_start f) f.segments
     ++ tables_bytes f))
 
 -- ---- what can be written
