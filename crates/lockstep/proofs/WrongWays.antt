@@ -1,6 +1,6 @@
 -- A branch that is checked behind it goes the way that it does not take: the pairs lead to the EBREAK there.
 use Rattle.std.proofs.Common.{◌≡◌, ℕ, ◌+◌, ◌≤◌, ⊎_elim, Bool, true, false, not, List, refl, sym, ap, ◌∙◌, subst, arith}
-use Rattle.std.proofs.lemmas.Bool.{false≢true}
+use Rattle.std.proofs.lemmas.Bool.{false≢true, eq-eqb}
 use Rattle.rv_isa.specs.declared.class.Class.TheVariants as class
 use Rattle.machine.specs.Step.{target}
 use Rattle.qed_model.specs.Promise.Closed.{is_checked}
@@ -9,8 +9,7 @@ use Rattle.qed_model.specs.Promise.Landed.{Fires}
 use Rattle.qed_model.specs.Promise.OwnSteps.{Covers}
 use Rattle.machine.proofs.Lemmas.{run-last, fetched_aligned}
 use Rattle.weave_core.specs.Lock.{no_bytes, span_bytes, no_reg, HasKind, scratch_compute, scratch_load, scratch_store, scratch_branch, jumps, scratch_jump, computes, fences, loads, stores, guards, guards_back, breaks, takes, branches, forks, ends, no_word, visits, Undisturbed, Loaded, ChecksWays, way_of}
-use Rattle.weave_core.specs.World.{World, Going, Program, start, AreStartRegs, State, reg, holds, moved, next_pc, Known, next, step, run, Class, class_of, Ins}
-use Rattle.weave_core.proofs.Lemmas.{known_same, jumped_to}
+use Rattle.weave_core.specs.World.{World, Going, Program, start, AreStartRegs, State, reg, holds, moved, jumped, next_pc, Known, next, step, run, Class, class_of, Ins}
 use Rattle.lockstep.proofs.Agreeing.{agree_moved}
 use Rattle.lockstep.proofs.Calm.{CalmCode, loaded_at, quiet_run}
 use Rattle.lockstep.proofs.Doom.{astray_fires}
@@ -29,7 +28,10 @@ module _ (f g : Program) (w : World) (before per : ℕ) (code : CalmCode f g w b
 
   -- of the kinds of word it is the branch whose ways are checked
   ways : ChecksWays w.code u.pc i
-  ways = by (subst (HasKind w.code u.pc) (known_same (sym here.quiet.known ∙ sym (loaded.code u.pc) ∙ at)) here.quiet.fits) where
+  ways = by (subst (HasKind w.code u.pc) (one (sym here.quiet.known ∙ sym (loaded.code u.pc) ∙ at)) here.quiet.fits) where
+    one : {j k : Ins} → Known j ≡ Known k → j ≡ k
+    one e = cc
+
     here : Undisturbed w.code (span_bytes w.form.spans) u
     here = quiet_at n (omega arith) go
 
@@ -70,8 +72,9 @@ module _ (f g : Program) (w : World) (before per : ℕ) (code : CalmCode f g w b
   pub wrong_way : Fires 2 (misled i u)
   wrong_way = by (holds i.kind (reg u i.rs1) (reg u i.rs2)) refl where
     there : (t : Bool) → other_way t i u ≡ moved u.regs (way_of i u.pc (not t)) u
+    unfolding jumped
     there true = refl
-    there false = jumped_to u.regs (target i u.pc) u (fetched_aligned u.memory u.ranges (target i u.pc) (ways true).ins (loaded.code (target i u.pc) ∙ (ways true).known))
+    there false = rw (eq-eqb _ _ (fetched_aligned u.memory u.ranges (target i u.pc) (ways true).ins (loaded.code (target i u.pc) ∙ (ways true).known))) refl
 
     by : (t : Bool) → holds i.kind (reg u i.rs1) (reg u i.rs2) ≡ t → Fires 2 (other_way t i u)
     by t e =
