@@ -22,9 +22,12 @@ pub mod Lands
 pub mod Promise
 pub mod Landed
 pub mod Drift
-pub mod Strays
-pub mod Unmarked
+pub mod Offset
+pub mod PieceCosts
 pub mod Blocks
+pub mod Strays
+pub mod Off
+pub mod Unmarked
 pub mod Short
 pub mod Ticks
 pub mod Tests

@@ -1,5 +1,5 @@
--- A promise of the lean form on stray jumps: if the code of a block runs under another signature, the run is over soon.
-use Rattle.std.specs.Prelude.{◌≡◌, ℕ, ◌+◌, ◌*◌, ◌/◌, ◌≤◌, ◌⊎◌, true, false, List}
+-- Promises of the lean form on stray jumps: if a block is entered or runs under another signature, the run is over soon.
+use Rattle.std.specs.Prelude.{◌≡◌, ℕ, ◌+◌, ◌*◌, ◌/◌, ◌%◌, ◌^◌, ◌<◌, ◌≤◌, ◌⊎◌, true, false, List}
 use Rattle.machine.specs.Members.{Among}
 use Rattle.machine.specs.declared.outcome.Outcome.{Outcome}
 use Rattle.machine.specs.declared.outcome.Outcome.TheVariants.{Going, Fired}
@@ -13,7 +13,7 @@ use Rattle.qed_model.specs.Weave.Forms.{form_of}
 use Rattle.qed_model.specs.Weave.LeanCode.{lean_items, lean_of, worded}
 use Rattle.tests.specs.Admission.Places.{base_of, image_of, code_place}
 use Rattle.qed_model.specs.Weave.Placed.{sum_of_sizes, entry_of}
-use Rattle.qed_model.specs.Weave.Sequences.{Block, SIGNATURE}
+use Rattle.qed_model.specs.Weave.Sequences.{Block, CURSOR, SIGNATURE}
 
 -- ---- where a jump leads
 -- a word of the pieces of a block, or the first one behind them
@@ -42,6 +42,24 @@ pub record Strayed (g : Program) (s : Sequences) (entry : ℕ → ℕ) (blocks :
       (regs : List ℕ) (t q : ℕ) (b : Block) → AreStartRegs regs → (after_output g regs t).outcome ≡ Going → Among b blocks → IsInBlock s entry b q
       → (reg (after_output g regs t) SIGNATURE ≡ b.start → ⊥)
       → Stopped (steps_in s b) (placed_at q (after_output g regs t))
+
+-- ---- at an entry
+-- x15 has a count that has not passed 2047, and an offset
+pub record HasCount (x : ℕ) : Type 0 where
+  pub count : x % 2 ^ 12 < 2 ^ 11
+  pub offset : x / 2 ^ 12 < 2 ^ 32
+
+-- as many steps as two ticks count at most, and 8
+abbrev pub displaced_steps : ℕ
+displaced_steps = 2 * 2047 + 8
+
+-- for any registers of the output's start: from any state of the run with a count in x15, the same state at the entry of
+-- a block under another signature is over within these steps
+pub record Displaced (g : Program) (entry : ℕ → ℕ) (blocks : List Block) : Type 0 where
+  pub stops :
+      (regs : List ℕ) (t a : ℕ) → AreStartRegs regs → (after_output g regs t).outcome ≡ Going → begins_at blocks a ≡ true
+      → HasCount (reg (after_output g regs t) CURSOR) → (reg (after_output g regs t) SIGNATURE ≡ a → ⊥)
+      → Stopped displaced_steps (placed_at (entry a) (after_output g regs t))
 
 -- ---- of a file in the lean form
 -- where its entries are, and the sequences of its code

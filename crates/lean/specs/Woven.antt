@@ -24,7 +24,7 @@ use Rattle.weave_core.specs.Leaving.{sweep_cost}
 use Rattle.weave_core.specs.World.{World, Known, Ins, class_of, Program}
 use Rattle.weave_core.specs.Blocks.{IsEntryOf, TableAt}
 use Rattle.weave_core.specs.Weave.{Weave}
-use Rattle.lean.specs.Strayed.{Strayed}
+use Rattle.lean.specs.Strayed.{Strayed, Displaced}
 use Rattle.lean.specs.Ticked.{is_ticked_at}
 
 -- the most steps of the check, with the look-ups behind it
@@ -156,6 +156,10 @@ abbrev pub LeanStrayed : Type 0
 LeanStrayed =
     (f g : Program) (w : World) (l : Lean) (blocks : List Block) → LeanPlan f g w l blocks → l.land ≡ true
     → Strayed g (worded w.form w.base w.entry l (begins_at blocks)) w.entry blocks
+
+-- a run at the entry of a block under another signature is over, also without `land`
+abbrev pub LeanDisplaced : Type 0
+LeanDisplaced = (f g : Program) (w : World) (l : Lean) (blocks : List Block) → LeanPlan f g w l blocks → Displaced g w.entry blocks
 
 -- with the sweep no change before it is silent at the end
 abbrev pub LeanClean : Type 0

@@ -1,7 +1,7 @@
 //! What is promised of the lean form.
-ghost use Rattle.lean.specs.Tests.{LeanTestsHaveWords, LeanTestsWritable, LeanTestsKept, LeanTestsCaught, LeanTestsFaults, LeanTestsLanded, LeanTestsStrayed};
-ghost use Rattle.lean.specs.Tests.{LeanTestsClean};
-ghost use Rattle.lean.specs.Woven.{LeanKept, LeanKeptInStep, LeanCaught, LeanLanded, LeanStrayed, LeanClean};
+ghost use Rattle.lean.specs.Tests.{LeanTestsHaveWords, LeanTestsWritable, LeanTestsKept, LeanTestsCaught, LeanTestsFaults};
+ghost use Rattle.lean.specs.Tests.{LeanTestsLanded, LeanTestsStrayed, LeanTestsDisplaced, LeanTestsClean};
+ghost use Rattle.lean.specs.Woven.{LeanKept, LeanKeptInStep, LeanCaught, LeanLanded, LeanStrayed, LeanDisplaced, LeanClean};
 
 /// A plan of the form keeps the input's values, with a bound on the steps of the output for each step of the input, and
 /// no check fires without changes.
@@ -29,6 +29,12 @@ pub fn lean_landed()
 /// another one is over soon, if the block does not go on by a register.
 pub fn lean_strayed()
     ensures { LeanStrayed }
+{}
+
+/// In a plan of the form a run at the entry of a block under another signature is over, also where entries do not test
+/// it: the next check, end or indirect jump does.
+pub fn lean_displaced()
+    ensures { LeanDisplaced }
 {}
 
 /// In a plan of the form with the sweep no change before it is silent at the end.
@@ -69,6 +75,11 @@ pub fn lean_tests_landed()
 /// If entries test the signature, a run that strays into a block under the signature of another one is over soon.
 pub fn lean_tests_strayed()
     ensures { LeanTestsStrayed }
+{}
+
+/// So is one at the entry of a block under another signature, with or without `land`.
+pub fn lean_tests_displaced()
+    ensures { LeanTestsDisplaced }
 {}
 
 /// With the sweep no change before it is silent at the end.

@@ -23,8 +23,9 @@ use Rattle.qed_top.specs.declared.status.Status.TheVariants.{Done}
 
 -- IN is a test and OUT a program woven from it with these options, both within the limits. The program's run has the
 -- test's values after each step of the test, and no check fires. A jump to a wrong entry fires in the form with
--- comparisons, and with `land` in the lean form; there a run that strays into a block is over soon too. Changes of
--- original registers and of data words are caught; with the sweep none is silent at the end. All this holds while the
+-- comparisons, and with `land` in the lean form; there a run that strays into a block is over soon too. In the lean
+-- form a run at an entry under another signature is over by the next check. Changes of original registers and of data
+-- words are caught; with the sweep none is silent at the end. A wrong branch is caught too. All this holds while the
 -- test does not trap, for any reached addresses. If only addresses that the file shows as reached have entries, the
 -- test's indirect jumps must lead to these. Bounds, entries and data ranges are those of the woven plan. The line
 -- prints the plan's numbers, of its bounds those of a register and of a word.

@@ -1,10 +1,10 @@
 -- The most steps of pieces, and of parts of leaves.
 use Rattle.std.proofs.Common.{◌≡◌, ℕ, ◌+◌, ◌-◌, ◌*◌, ◌%◌, ◌^◌, ◌≤◌, Bool, true, false, cond, List, [], ◌∷◌, ◌++◌, length, refl, arith}
-use Rattle.std.specs.Prelude.{◌==◌, ◌||◌, max, ℤ, pos, neg_ℤ}
+use Rattle.std.specs.Prelude.{◌==◌, ◌||◌, max, ℤ, pos}
 use Rattle.std.proofs.lemmas.Bool.{false≢true}
 use Rattle.std.proofs.Math.Nat.{max-le, mul-add}
 use Rattle.rv_isa.specs.declared.class.Class.TheVariants as class
-use Rattle.machine.specs.Table.{ins, Ins, Lui, Addi, Andi, Add, Beq}
+use Rattle.machine.specs.Table.{ins, Ins, Lui, Addi, Add, Beq}
 use Rattle.machine.specs.Offsets.{distance_between, upper_part, lower_part}
 use Rattle.tests.specs.Admission.Leaders.{is_end}
 use Rattle.qed_model.specs.Weave.LeanBounds.{cost_of, entry_steps}
@@ -95,7 +95,7 @@ way_most k i = by (is_break k) where
   by true = omega arith
   by false = omega arith
 
-goes_most : (a t : ℕ) → cost (goes a t) ≤ 4
+pub goes_most : (a t : ℕ) → cost (goes a t) ≤ 4
 goes_most a t = let e = cost_append (turn a t) (Go t ∷ []) in let b = turn_most a t in omega (arith, e, b)
 
 fall_most : (leader : ℕ → Bool) (t : ℕ) → cost (fall_to leader t) ≤ 1
@@ -105,13 +105,13 @@ fall_most leader t = by (leader t) where
   by false = omega arith
 
 -- ---- of leaves
-falls_cost : (leader : ℕ → Bool) (a t : ℕ) → cost (turn a t ++ fall_to leader t) ≤ 27
+pub falls_cost : (leader : ℕ → Bool) (a t : ℕ) → cost (turn a t ++ fall_to leader t) ≤ 4
 falls_cost leader a t = let e = cost_append (turn a t) (fall_to leader t) in let b = turn_most a t in let c = fall_most leader t in omega (arith, e, b, c)
 
 jump_cost : (leader : ℕ → Bool) (i : Ins) (a at : ℕ) → cost (leave_as 0 [] (fall_to leader) class.Jump i a at) ≤ 27
 jump_cost leader i a at = let e = cost_append (links i at) (goes a (target i at)) in let b = links_most i at in let c = goes_most a (target i at) in omega (arith, e, b, c)
 
-branch_cost : (leader : ℕ → Bool) (i : Ins) (a at : ℕ) → leave_cost_as (fall_to leader) class.Branch i a at ≤ 27
+pub branch_cost : (leader : ℕ → Bool) (i : Ins) (a at : ℕ) → leave_cost_as (fall_to leader) class.Branch i a at ≤ 6
 branch_cost leader i a at =
     let n = (at + 4) % 2 ^ 64 in
     let e = cost_append (turn a n) (fall_to leader n) in
@@ -151,12 +151,12 @@ stop_cost class.Illegal leader i a at e = let b = one (is_break i.kind) in omega
   one true = omega arith
   one false = omega arith
 stop_cost class.Jump leader i a at e = jump_cost leader i a at
-stop_cost class.Branch leader i a at e = branch_cost leader i a at
+stop_cost class.Branch leader i a at e = let b = branch_cost leader i a at in omega (arith, b)
 stop_cost class.JumpReg leader i a at e = leap_cost leader i a at
 stop_cost c leader i a at e = absurd (false≢true e)
 
 pub end_most : (e : End) (leader : ℕ → Bool) (a at : ℕ) → IsEnd e → leave_cost (fall_to leader) e a at ≤ 27
-end_most Falls leader a at h = falls_cost leader a at
+end_most Falls leader a at h = let b = falls_cost leader a at in omega (arith, b)
 end_most (Stops i) leader a at h = stop_cost (class_of i.kind) leader i a at h
 
 -- what stands at the end of a block is an end

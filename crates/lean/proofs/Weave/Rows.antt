@@ -183,7 +183,7 @@ module _ (w : World) (l : Lean) (leader : ℕ → Bool) (x : LeanIn w l leader) 
       let first = ins Beq 0 SIGNATURE TEMPORARY (pos 8) in
       let near = w.low l.check first x.check.0 in
       let sign = x0.sixteen ∙ t.sign in
-      let c = call_row w v most t.count t.offset x0.over long x0.halved.output.zero_reg (x0.fifteen ∙ t.fifteen) t.most t.few small l.land s.pc l.check rest ge e.low sign x0.named (omega (arith, near)) (w.grain l.check first x.check.0) (at_its v.pc s.pc (v.pc + jump_at l.land) rest has x0.reads) in
+      let c = call_row w v most t.count t.offset x0.over long x0.halved.output.zero_reg (x0.fifteen ∙ t.fifteen) t.most t.few small l.land s.pc l.check rest ge e.low x0.named (omega (arith, near)) (w.grain l.check first x.check.0) (at_its v.pc s.pc (v.pc + jump_at l.land) rest has x0.reads) in
       let y = moved (writes c.effects v.regs) l.check v in
       let count : x0.steps + (3 + call_steps l.land) ≡ entry_steps l.land + call_steps l.land = omega (arith, x0.count) in (
         y,

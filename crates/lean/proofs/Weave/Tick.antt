@@ -3,14 +3,14 @@ use Rattle.std.proofs.Common.{◌≡◌, ℕ, ◌+◌, ◌*◌, ◌%◌, ◌^◌
 use Rattle.std.specs.Prelude.{ℤ, pos, slice_index}
 use Rattle.std.proofs.lemmas.Bool.{lt-ltb, le-ltb}
 use Rattle.rv_isa.specs.declared.class.Class.TheVariants as class
-use Rattle.machine.specs.Step.{State, reg, moved, jumped, result, computed_value, Known, ins, Addi, Slli, Bge, Jal}
+use Rattle.machine.specs.Step.{State, Ins, class_of, reg, moved, jumped, result, computed_value, Fetched, Known, ins, Addi, Slli, Beq, Bge, Jal}
 use Rattle.machine.specs.Offsets.{distance_between}
 use Rattle.qed_model.specs.Weave.Sequences.{Reads, fired_check, CURSOR, SIGNATURE, TEMPORARY, SPARE}
 use Rattle.qed_model.specs.Weave.Lean.{tick}
 use Rattle.qed_model.specs.Weave.LeanBounds.{call_steps}
 use Rattle.machine.proofs.Lemmas.{Over, over_moved, known_at, Walk, walk_one, walk_on, difference}
 use Rattle.weave_core.specs.World.{World, Quiet, Item, Plain, Constant, holds, value}
-use Rattle.weave_core.proofs.Lemmas.{addi_value, branch_taken, branch_passed, jumped_to, step-jump, quiet_as, own_signed, AllTemps, Sets, sets_const, writes, writes_long}
+use Rattle.weave_core.proofs.Lemmas.{addi_value, branch_taken, branch_passed, jumped_to, step-jump, quiet_as, AllTemps, Sets, sets_const, writes, writes_long}
 use Rattle.lean.specs.Ticked.{with_count}
 use Rattle.lean.proofs.Weave.Chain.{Op, plain, items, Gives, read_back, all_temps, chain, chain_pc}
 
@@ -134,10 +134,17 @@ module _ (w : World) (u : State) (most n offset : ℕ) (o : Over w.code u) (long
     pub thirty : slice_index (writes effects u.regs) 30 ≡ a
 
   pub call_row :
-      (land : Bool) (a to : ℕ) (rest : List Item) → 2048 ≤ n + most → a < 2 ^ 64 → reg u SIGNATURE ≡ a → (land ≡ true → reg u TEMPORARY ≡ a) → to < 2 ^ 64 → to % 4 ≡ 0
+      (land : Bool) (a to : ℕ) (rest : List Item) → 2048 ≤ n + most → a < 2 ^ 64 → (land ≡ true → reg u TEMPORARY ≡ a) → to < 2 ^ 64 → to % 4 ≡ 0
       → Reads w.form.far w.code w.entry u.pc (tick land a most (distance_between (u.pc + jump_at land) to) ++ rest) → Called land a to
   unfolding sets_const
-  call_row land a to rest ge low sign named far grain h = by land named h where
+  call_row land a to rest ge low named far grain h = by land named h where
+    -- no test of the signature stands behind the address
+    no_test : {A : Type 0} {f : Fetched} {d : ℤ} → f ≡ Known (ins Jal 0 0 0 d) → f ≡ Known (ins Beq 0 SIGNATURE TEMPORARY (pos 8)) → A
+    no_test {A} {f} {d} h k =
+        let e : ins Jal 0 0 0 d ≡ ins Beq 0 SIGNATURE TEMPORARY (pos 8) = cc in
+        let q : class.Jump ≡ class.Branch = ap (λ (i : Ins). class_of i.kind) e in
+        absurd (cc)
+
     lacks : holds Bge (reg before SPARE) (reg before 0) ≡ false
     lacks = test false (high_holds (shifted now) (high_bit offset (n + most) ge (omega (arith, high, small))))
 
@@ -169,7 +176,7 @@ module _ (w : World) (u : State) (most n offset : ℕ) (o : Over w.code u) (long
         let x = moved l (u.pc + 8 + 4) u in
         let one : Walk (Quiet w) before 1 x = branch_passed w before i over f.reads.0 refl lacks in
         let ox = over_moved w.code u l (u.pc + 8 + 4) o in
-        let c = sets_const w x 30 a j ox f.reads.1 low (omega (arith, writes_long ticked u.regs, long)) (own_signed w x a j ox f.reads.1 low (read_back ticked u.regs 16 long refl ∙ sign)) in
+        let c = sets_const w x 30 a j ox f.reads.1 low (omega (arith, writes_long ticked u.regs, long)) (λ b lo k. no_test (o.code (u.pc + 8 + 4 + 8) ∙ f.reads.1.2.0) k.2) in
         let e : u.pc + 8 + 4 + 8 ≡ u.pc + 20 = omega arith in
         let y = moved (writes ws u.regs) (u.pc + 20) u in
         let two : Walk (Quiet w) x 2 y = subst (λ p. Walk (Quiet w) x 2 (moved (writes ws u.regs) p u)) e c.walk in
