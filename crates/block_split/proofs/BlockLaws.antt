@@ -15,7 +15,7 @@ use Rattle.qed_model.proofs.Lemmas.{Ascend}
 use Rattle.flow_recovery.specs.Sets.{lists}
 use Rattle.block_split.specs.declared.block.CodeBlock.{CodeBlock}
 use Rattle.block_split.specs.Bodies.{ends, body_size, body_end}
-use Rattle.block_split.specs.Built.{IsLongBlock, IsShortBlock, Begun, Built}
+use Rattle.block_split.specs.Built.{IsLongBlock, IsShortBlock, BegunBlocks, Built}
 use Rattle.block_split.specs.Listed.{end_of, block_of}
 use Rattle.block_split.proofs.BodyLaws.{instructions, Rest, rest_tail, above, rest_all, IsBody, body_is}
 
@@ -119,7 +119,7 @@ module _ (f : ElfFile) (o : Options) (leads : ℕ → Bool) (exact : (a : ℕ) �
     others = λ i a le e. absurd (false≢true (sym none ∙ i));
   }
 
-  step : (low : ℕ) (w : CodeWord) (ws : List CodeWord) (front back : List CodeBlock) (x y : Bool) → leads w.at ≡ x → every ≡ y → Rest f low (w ∷ ws) → Begun x y leads reached o.inst_max (w ∷ ws) front → From (w.at + 1) (map block_of back) → From low (map block_of (front ++ back))
+  step : (low : ℕ) (w : CodeWord) (ws : List CodeWord) (front back : List CodeBlock) (x y : Bool) → leads w.at ≡ x → every ≡ y → Rest f low (w ∷ ws) → BegunBlocks x y leads reached o.inst_max (w ∷ ws) front → From (w.at + 1) (map block_of back) → From low (map block_of (front ++ back))
   step low w ws front back true y ex ey r one rest =
       subst (λ bs. From low (map block_of (bs ++ back))) (sym one.is)
       (with_block low w ws (block_of one.block) (map block_of back) r one.holds.start (inl (long_block low w ws one.block r ex one.holds)) (long_marked low w ws one.block r one.holds) rest)

@@ -10,7 +10,7 @@ use Rattle.machine.specs.Members.{Every, Pairs}
 use Rattle.flow_recovery.proofs.OrderLaws.{pairs_of}
 use Rattle.block_split.specs.declared.block.CodeBlock.{CodeBlock}
 use Rattle.block_split.specs.Bodies.{ends, size_behind, end_behind}
-use Rattle.block_split.specs.Built.{first, behind, IsLongBlock, IsShortBlock, Begun, AddsBlock, Built}
+use Rattle.block_split.specs.Built.{first, behind, IsLongBlock, IsShortBlock, BegunBlocks, AddsBlock, Built}
 
 -- the rest of words begins with a word
 pub record Head (words : List CodeWord) (at : ℕ) : Type 0 where
@@ -38,16 +38,16 @@ addresses ws = map (λ c. c.at) ws
 
 module _ (leads : ℕ → Bool) (every : Bool) (reached : ℕ → Bool) (most : ℕ) where
   -- the block that begins with the first word, by what is known there
-  begun_long : (t s : Bool) (w : CodeWord) (ws : List CodeWord) (b : CodeBlock) → t ≡ true → IsLongBlock leads reached most (w ∷ ws) b → Begun t s leads reached most (w ∷ ws) (b ∷ [])
+  begun_long : (t s : Bool) (w : CodeWord) (ws : List CodeWord) (b : CodeBlock) → t ≡ true → IsLongBlock leads reached most (w ∷ ws) b → BegunBlocks t s leads reached most (w ∷ ws) (b ∷ [])
   begun_long true s w ws b e h = record { block = b; is = refl; holds = h }
   begun_long false s w ws b e h = absurd (cc)
 
-  begun_short : (t s : Bool) (w : CodeWord) (ws : List CodeWord) (b : CodeBlock) → t ≡ false → s ≡ true → IsShortBlock w b → Begun t s leads reached most (w ∷ ws) (b ∷ [])
+  begun_short : (t s : Bool) (w : CodeWord) (ws : List CodeWord) (b : CodeBlock) → t ≡ false → s ≡ true → IsShortBlock w b → BegunBlocks t s leads reached most (w ∷ ws) (b ∷ [])
   begun_short true s w ws b e i h = absurd (cc)
   begun_short false false w ws b e i h = absurd (cc)
   begun_short false true w ws b e i h = record { block = b; is = refl; holds = h }
 
-  begun_none : (t s : Bool) (w : CodeWord) (ws : List CodeWord) → t ≡ false → s ≡ false → Begun t s leads reached most (w ∷ ws) []
+  begun_none : (t s : Bool) (w : CodeWord) (ws : List CodeWord) → t ≡ false → s ≡ false → BegunBlocks t s leads reached most (w ∷ ws) []
   begun_none true s w ws e i = absurd (cc)
   begun_none false true w ws e i = absurd (cc)
   begun_none false false w ws e i = refl
@@ -129,7 +129,7 @@ module _ (leads : ℕ → Bool) (every : Bool) (reached : ℕ → Bool) (most : 
     marked = h.marked;
   }
 
-  begun_agrees : (t s : Bool) (next : ℕ → Bool) (w : CodeWord) (ws : List CodeWord) (bs : List CodeBlock) → Agrees next ws → Begun t s next reached most (w ∷ ws) bs → Begun t s leads reached most (w ∷ ws) bs
+  begun_agrees : (t s : Bool) (next : ℕ → Bool) (w : CodeWord) (ws : List CodeWord) (bs : List CodeBlock) → Agrees next ws → BegunBlocks t s next reached most (w ∷ ws) bs → BegunBlocks t s leads reached most (w ∷ ws) bs
   begun_agrees true s next w ws bs a h = record { block = h.block; is = h.is; holds = long_agrees next w ws h.block a h.holds }
   begun_agrees false true next w ws bs a h = h
   begun_agrees false false next w ws bs a h = h
@@ -165,10 +165,10 @@ module _ (leads : ℕ → Bool) (every : Bool) (reached : ℕ → Bool) (most : 
       let left_is : left ≡ filter leads (addresses (w ∷ rest)) = before.left_are ∙ ap (λ (xs : List CodeWord). filter leads (addresses xs)) h.is in
       let after_is : after ≡ kept = by_behind ∙ ap (λ a. behind a left) here ∙ ap (behind w.at) left_is ∙ behind_is w.at (addresses rest) pairs.0 in
       let leader_is : leader ≡ leads w.at = by_left ∙ ap (is_at (first left)) here ∙ ap (λ bs. is_at (first bs) w.at) left_is ∙ first_is w.at (addresses rest) pairs.0 in
-      let by_next : Begun (leads w.at) every (is_at (first kept)) reached most (w ∷ rest) adds.added =
-      subst (λ z. Begun z every (is_at (first kept)) reached most (w ∷ rest) adds.added) leader_is
-      (subst (λ n. Begun leader every (is_at n) reached most (w ∷ rest) adds.added) (by_after ∙ ap first after_is)
-      (subst (λ xs. Begun leader every (is_at next) reached most xs adds.added) (e ∙ h.is) adds.begun)) in
+      let by_next : BegunBlocks (leads w.at) every (is_at (first kept)) reached most (w ∷ rest) adds.added =
+      subst (λ z. BegunBlocks z every (is_at (first kept)) reached most (w ∷ rest) adds.added) leader_is
+      (subst (λ n. BegunBlocks leader every (is_at n) reached most (w ∷ rest) adds.added) (by_after ∙ ap first after_is)
+      (subst (λ xs. BegunBlocks leader every (is_at next) reached most xs adds.added) (e ∙ h.is) adds.begun)) in
       let begun = begun_agrees (leads w.at) every (is_at (first kept)) w rest adds.added (agrees rest pairs.1) by_next in
       record {
         left_are = after_is ∙ ap (λ n. filter leads (addresses (drop n words))) (sym one);

@@ -11,8 +11,8 @@ use Rattle.machine.proofs.Lemmas.{contains_of}
 use Rattle.flow_recovery.proofs.CodeLaws.{code_word, standing_code}
 use Rattle.block_split.specs.declared.block.CodeBlock.{CodeBlock}
 use Rattle.block_split.specs.Bodies.{ends}
-use Rattle.block_split.specs.Built.{IsLongBlock, IsShortBlock, Begun, Built}
-use Rattle.block_split.specs.Listed.{IsWithin}
+use Rattle.block_split.specs.Built.{IsLongBlock, IsShortBlock, BegunBlocks, Built}
+use Rattle.block_split.specs.Listed.{IsWithinTop}
 use Rattle.block_split.proofs.BodyLaws.{Rest, rest_tail, rest_all, body_is}
 
 module _ (f : ElfFile) (top : ℕ) (reach : (a : ℕ) → is_code f a ≡ true → a + 4 ≤ top) where
@@ -25,7 +25,7 @@ module _ (f : ElfFile) (top : ℕ) (reach : (a : ℕ) → is_code f a ≡ true �
       omega (arith, h)
 
   module _ (o : Options) (leads : ℕ → Bool) (exact : (a : ℕ) → IsTrue (leads a) ↔ IsLeader f o a) (every : Bool) (reached : ℕ → Bool) (most : ℕ) where
-    long_within : (low : ℕ) (w : CodeWord) (ws : List CodeWord) (b : CodeBlock) → Rest f low (w ∷ ws) → IsLongBlock leads reached most (w ∷ ws) b → IsWithin top b
+    long_within : (low : ℕ) (w : CodeWord) (ws : List CodeWord) (b : CodeBlock) → Rest f low (w ∷ ws) → IsLongBlock leads reached most (w ∷ ws) b → IsWithinTop top b
     long_within low w ws b r l = record {
       whole = l.pieces.total;
       below =
@@ -40,7 +40,7 @@ module _ (f : ElfFile) (top : ℕ) (reach : (a : ℕ) → is_code f a ≡ true �
     short_by w true h = (refl, omega (arith, h))
     short_by w false h = (refl, omega (arith, h))
 
-    short_within : (low : ℕ) (w : CodeWord) (ws : List CodeWord) (b : CodeBlock) → Rest f low (w ∷ ws) → IsShortBlock w b → IsWithin top b
+    short_within : (low : ℕ) (w : CodeWord) (ws : List CodeWord) (b : CodeBlock) → Rest f low (w ∷ ws) → IsShortBlock w b → IsWithinTop top b
     short_within low w ws b r h =
         let p = short_by w (ends w) (reach w.at r.ascend.1) in
         record {
@@ -52,26 +52,26 @@ module _ (f : ElfFile) (top : ℕ) (reach : (a : ℕ) → is_code f a ≡ true �
               omega (arith, q, s, n);
         }
 
-    one_within : (b : CodeBlock) (bs : List CodeBlock) → bs ≡ b ∷ [] → IsWithin top b → All (IsWithin top) bs
-    one_within b bs e h = All-same (IsWithin top) bs (b ∷ []) e (All-cons (IsWithin top) b [] h (All-nil (IsWithin top)))
+    one_within : (b : CodeBlock) (bs : List CodeBlock) → bs ≡ b ∷ [] → IsWithinTop top b → All (IsWithinTop top) bs
+    one_within b bs e h = All-same (IsWithinTop top) bs (b ∷ []) e (All-cons (IsWithinTop top) b [] h (All-nil (IsWithinTop top)))
 
-    begun_within : (low : ℕ) (w : CodeWord) (ws : List CodeWord) (bs : List CodeBlock) (x y : Bool) → Rest f low (w ∷ ws) → Begun x y leads reached most (w ∷ ws) bs → All (IsWithin top) bs
+    begun_within : (low : ℕ) (w : CodeWord) (ws : List CodeWord) (bs : List CodeBlock) (x y : Bool) → Rest f low (w ∷ ws) → BegunBlocks x y leads reached most (w ∷ ws) bs → All (IsWithinTop top) bs
     begun_within low w ws bs true y r one = one_within one.block bs one.is (long_within low w ws one.block r one.holds)
     begun_within low w ws bs false true r one = one_within one.block bs one.is (short_within low w ws one.block r one.holds)
-    begun_within low w ws bs false false r none = All-same (IsWithin top) bs [] none (All-nil (IsWithin top))
+    begun_within low w ws bs false false r none = All-same (IsWithinTop top) bs [] none (All-nil (IsWithinTop top))
 
-    built_within : (low : ℕ) (ws : List CodeWord) (bs : List CodeBlock) → Rest f low ws → Built leads every reached most ws bs → All (IsWithin top) bs
-    built_within low [] bs r e = All-same (IsWithin top) bs [] e (All-nil (IsWithin top))
+    built_within : (low : ℕ) (ws : List CodeWord) (bs : List CodeBlock) → Rest f low ws → Built leads every reached most ws bs → All (IsWithinTop top) bs
+    built_within low [] bs r e = All-same (IsWithinTop top) bs [] e (All-nil (IsWithinTop top))
     built_within low (w ∷ ws) bs r p =
-        All-same (IsWithin top) bs (p.front ++ p.back) p.is
-        (All-append (IsWithin top) p.front p.back
+        All-same (IsWithinTop top) bs (p.front ++ p.back) p.is
+        (All-append (IsWithinTop top) p.front p.back
         (begun_within low w ws p.front (leads w.at) every r p.first)
         (built_within (w.at + 1) ws p.back (rest_tail f low w ws r) p.rest))
 
 -- if no word stands past `top`, no block does
 pub blocks_within :
     (f : ElfFile) (o : Options) (leads : ℕ → Bool) (exact : (a : ℕ) → IsTrue (leads a) ↔ IsLeader f o a) (every : Bool) (reached : ℕ → Bool) (most : ℕ) (code : List CodeWord) (bs : List CodeBlock)
-    → AreCodeWords f code → Built leads every reached most code bs → (top : ℕ) → All (λ c. c.at + 4 ≤ top) code → All (IsWithin top) bs
+    → AreCodeWords f code → Built leads every reached most code bs → (top : ℕ) → All (λ c. c.at + 4 ≤ top) code → All (IsWithinTop top) bs
 blocks_within f o leads exact every reached most code bs words built top small =
     built_within f top reach o leads exact every reached most 0 code bs (rest_all f code words) built where
       reach : (a : ℕ) → is_code f a ≡ true → a + 4 ≤ top

@@ -49,20 +49,21 @@ pub record One (P : CodeBlock → Type 0) (bs : List CodeBlock) : Type 0 where
   pub holds : P block
 
 -- the blocks that begin with the first word: one at a leader, one if each address has a block, else none
-abbrev pub Begun : Bool → Bool → (ℕ → Bool) → (ℕ → Bool) → ℕ → List CodeWord → List CodeBlock → Type 0
-Begun leader every leads reached most [] bs = bs ≡ []
-Begun true every leads reached most (w ∷ ws) bs = One (IsLongBlock leads reached most (w ∷ ws)) bs
-Begun false true leads reached most (w ∷ ws) bs = One (IsShortBlock w) bs
-Begun false false leads reached most (w ∷ ws) bs = bs ≡ []
+abbrev pub BegunBlocks : Bool → Bool → (ℕ → Bool) → (ℕ → Bool) → ℕ → List CodeWord → List CodeBlock → Type 0
+BegunBlocks leader every leads reached most [] bs = bs ≡ []
+BegunBlocks true every leads reached most (w ∷ ws) bs = One (IsLongBlock leads reached most (w ∷ ws)) bs
+BegunBlocks false true leads reached most (w ∷ ws) bs = One (IsShortBlock w) bs
+BegunBlocks false false leads reached most (w ∷ ws) bs = bs ≡ []
 
 -- adding the blocks that begin with the first word
-pub record AddsBlock (leader : Bool) (leads : ℕ → Bool) (every : Bool) (reached : ℕ → Bool) (most : ℕ) (words : List CodeWord) (old new : List CodeBlock) : Type 0 where
+pub record AddsBlock (leader : Bool) (leads : ℕ → Bool) (every : Bool) (reached : ℕ → Bool)
+    (most : ℕ) (words : List CodeWord) (old new : List CodeBlock) : Type 0 where
   pub added : List CodeBlock
   pub new_is : new ≡ old ++ added
-  pub begun : Begun leader every leads reached most words added
+  pub begun : BegunBlocks leader every leads reached most words added
 
 -- a list in two parts
-pub record Parts (P Q : List CodeBlock → Type 0) (bs : List CodeBlock) : Type 0 where
+pub record TwoParts (P Q : List CodeBlock → Type 0) (bs : List CodeBlock) : Type 0 where
   pub front : List CodeBlock
   pub back : List CodeBlock
   pub is : bs ≡ front ++ back
@@ -72,4 +73,4 @@ pub record Parts (P Q : List CodeBlock → Type 0) (bs : List CodeBlock) : Type 
 -- the blocks that begin with any of the words
 abbrev pub Built : (ℕ → Bool) → Bool → (ℕ → Bool) → ℕ → List CodeWord → List CodeBlock → Type 0
 Built leads every reached most [] bs = bs ≡ []
-Built leads every reached most (w ∷ ws) bs = Parts (Begun (leads w.at) every leads reached most (w ∷ ws)) (Built leads every reached most ws) bs
+Built leads every reached most (w ∷ ws) bs = TwoParts (BegunBlocks (leads w.at) every leads reached most (w ∷ ws)) (Built leads every reached most ws) bs

@@ -13,6 +13,6 @@ abbrev pub block_of : CodeBlock → Block
 block_of b = record { start = b.start; body = divided b.lengths b.body; end = end_of b.end; reached = b.reached }
 
 -- the pieces make up the body, and the address behind it is at most `top`
-pub record IsWithin (top : ℕ) (b : CodeBlock) : Type 0 where
+pub record IsWithinTop (top : ℕ) (b : CodeBlock) : Type 0 where
   pub whole : sum b.lengths ≡ length b.body
   pub below : b.start + 4 * length b.body ≤ top

@@ -10,7 +10,7 @@ ghost use Rattle.tests.specs.Admission.Test.{AreCodeWords, IsTestOf};
 ghost use Rattle.qed_model.specs.Weave.Blocks.{AreBlocks};
 ghost use Rattle.qed_model.specs.Weave.SoundOptions.{AreSoundOptions};
 ghost use Rattle.block_split.specs.Built.{first, behind, AreAlong, IsLongBlock, IsShortBlock, AddsBlock, Built};
-ghost use Rattle.block_split.specs.Listed.{block_of, IsWithin};
+ghost use Rattle.block_split.specs.Listed.{block_of, IsWithinTop};
 
 use crate::block::{Blocks, CodeBlock};
 use crate::bodies::{body_extent, ends, is_at};
@@ -101,7 +101,8 @@ fn push_block(
 ) -> Result<(), AllocError>
     requires some { 1 ≤ length words.now }
     requires sound { AreSoundOptions cutting.now.options.now }
-    ensures { OnOk result (AddsBlock leads (is_at next) cutting.now.every (has_address cutting.now.reached.now) cutting.now.options.now.inst_max words.now blocks.old.items blocks.new.items) }
+    ensures { OnOk result (AddsBlock leads (is_at next) cutting.now.every
+        (has_address cutting.now.reached.now) cutting.now.options.now.inst_max words.now blocks.old.items blocks.new.items) }
 {
     let alloc = *blocks.allocator();
     if leads {
@@ -142,7 +143,8 @@ pub(crate) fn list(
 ) -> Result<Vec<CodeBlock>, AllocError>
     requires sound { AreSoundOptions cutting.now.options.now }
     requires along { AreAlong words.now leaders.now }
-    ensures { IfOk result (λ blocks. Built (lists leaders.now) cutting.now.every (has_address cutting.now.reached.now) cutting.now.options.now.inst_max words.now blocks.items) }
+    ensures { IfOk result (λ blocks. Built (lists leaders.now) cutting.now.every
+        (has_address cutting.now.reached.now) cutting.now.options.now.inst_max words.now blocks.items) }
 {
     let mut blocks = Vec::new(alloc);
     let mut left = leaders;
@@ -177,7 +179,7 @@ pub fn blocks(
     requires test { IsTestOf file.now options.now test.now }
     requires sound { AreSoundOptions options.now }
     ensures exact { IfOk result (λ blocks. AreBlocks file.now options.now (map block_of blocks)) }
-    ensures within { IfOk result (λ blocks. (top : ℕ) → All (λ c. c.at + 4 ≤ top) test.now.code → All (IsWithin top) blocks) }
+    ensures within { IfOk result (λ blocks. (top : ℕ) → All (λ c. c.at + 4 ≤ top) test.now.code → All (IsWithinTop top) blocks) }
 {
     let leaders = leaders(alloc, test, file, options)?;
     let every = has_every(test, options);

@@ -2,7 +2,8 @@
 ghost use Rattle.std.specs.Prelude.{◌≡◌, ◌+◌, ◌*◌, ◌≤◌, ◌<◌, ◌^◌};
 ghost use Rattle.std.specs.Option.{SomeIff};
 ghost use Rattle.qed_model.specs.declared.steps.TheConstants.{LEAN_LEAVE_STEPS};
-ghost use Rattle.qed_model.specs.Weave.LeanBounds.{cost_of, entry_steps as entry_steps_of, call_steps as call_steps_of, check_bound, period as period_of, lean_bounds_of};
+ghost use Rattle.qed_model.specs.Weave.LeanBounds.{cost_of, entry_steps as entry_steps_of, call_steps as call_steps_of, check_bound, period as period_of};
+ghost use Rattle.qed_model.specs.Weave.LeanBounds.{lean_bounds_of};
 ghost use Rattle.qed_model.specs.Weave.Pieces.{piece_count};
 ghost use Rattle.bound_calc.specs.Fitting.{fitting, AreSmall};
 
@@ -29,7 +30,8 @@ fn call(shape: &Shape) -> u128
 
 /// The steps of the longest piece, with a check before it and the leave.
 fn piece(shape: &Shape, check: u64) -> Option<u64>
-    ensures { result ≡ fitting (LEAN_LEAVE_STEPS + call_steps_of shape.now.land + 2 * entry_steps_of shape.now.land + check + cost_of shape.now.diverse * shape.now.inst_max) }
+    ensures { result ≡ fitting (LEAN_LEAVE_STEPS + call_steps_of shape.now.land
+        + 2 * entry_steps_of shape.now.land + check + cost_of shape.now.diverse * shape.now.inst_max) }
 {
     let cost = u128::from(lean_instruction_steps(shape.diverse));
     let body = cost * u128::from(shape.inst_max);

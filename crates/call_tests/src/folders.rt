@@ -58,7 +58,13 @@ fn passes(before: &mut u64, kind: ErrorKind) -> io::Result<()> {
 }
 
 impl Folder for InMemory {
-    ghost held = { λ s. Some (record { old = option_map (λ v. v.items) s.old; beside = option_map (λ v. v.items) s.beside; is_synced = s.is_synced; has_rights = s.has_rights; stuck = s.stuck }) };
+    ghost held = { λ s. Some (record {
+      old = option_map (λ v. v.items) s.old;
+      beside = option_map (λ v. v.items) s.beside;
+      is_synced = s.is_synced;
+      has_rights = s.has_rights;
+      stuck = s.stuck;
+    }) };
 
     fn create(&mut self) -> io::Result<()> {
         passes(&mut self.before, self.kind)?;

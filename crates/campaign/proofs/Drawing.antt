@@ -18,7 +18,7 @@ use Rattle.qed_model.specs.Promise.Caught.{bound_of}
 use Rattle.machine.proofs.Lemmas.{All-each}
 use Rattle.qed_model.proofs.Lemmas.{in_order_ordered}
 use Rattle.test_gen.proofs.RandomWords.{after-more}
-use Rattle.campaign.specs.Draw.{numbered_place, has_place, drawn_place, drawn_change, drawn_strike, strike_count, drawn_strikes, HasWords, range_of, word_count, seeded, drawn, next, after, Plan, has_word, is_word, with_change, in_order}
+use Rattle.campaign.specs.Draw.{numbered_place, has_place, drawn_place, drawn_change, drawn_strike, strike_count, drawn_strikes, HasWords, range_of, word_count, seeded, drawn, next_state, after, Plan, has_word, is_word, with_change, in_order}
 use Rattle.campaign.specs.Struck.{IsStrike}
 
 -- ---- words among the places
@@ -43,7 +43,7 @@ no_drawn_word (Some Words) spans word place none = let e : nat_lt 0 0 ≡ true =
 
 no_word : (spans : List (ℕ × ℕ)) (reach : ℕ) (aim : Aim) (g : Lcg) → has_place aim.only (word_count spans) ≡ true → word_count spans ≡ 0 → is_word (drawn_change spans reach aim g).place ≡ false
 unfolding drawn_change
-no_word spans reach aim g place none = no_drawn_word aim.only spans (drawn (next g)) place none
+no_word spans reach aim g place none = no_drawn_word aim.only spans (drawn (next_state g)) place none
 
 fold_none :
     (spans : List (ℕ × ℕ)) (reach : ℕ) (aim : Aim) (n : ℕ) (g : Lcg) → has_place aim.only (word_count spans) ≡ true → word_count spans ≡ 0
@@ -90,10 +90,10 @@ drawn_all_fit plan reach d has =
 -- ---- one more change, and one more strike
 -- one more change is drawn
 pub one_change :
-    (spans : List (ℕ × ℕ)) (reach : ℕ) (aim : Aim) (k : ℕ) (g : Lcg) (made next : List Change) (c : Change) → made ≡ in_order (each k (λ j. drawn_change spans reach aim (after (3 * j) g)))
-    → c ≡ drawn_change spans reach aim (after (3 * k) g) → next ≡ with_change made c → next ≡ in_order (each (k + 1) (λ j. drawn_change spans reach aim (after (3 * j) g)))
+    (spans : List (ℕ × ℕ)) (reach : ℕ) (aim : Aim) (k : ℕ) (g : Lcg) (made next_state : List Change) (c : Change) → made ≡ in_order (each k (λ j. drawn_change spans reach aim (after (3 * j) g)))
+    → c ≡ drawn_change spans reach aim (after (3 * k) g) → next_state ≡ with_change made c → next_state ≡ in_order (each (k + 1) (λ j. drawn_change spans reach aim (after (3 * j) g)))
 unfolding each
-one_change spans reach aim k g made next c e is added =
+one_change spans reach aim k g made next_state c e is added =
     let f : ℕ → Change = λ j. drawn_change spans reach aim (after (3 * j) g) in
     let n : k + 1 ≡ suc k = omega arith in
     added ∙ ap (λ ds. with_change ds c) e ∙ ap (with_change (in_order (each k f))) is ∙ sym (fold-append with_change [] (each k f) (f k ∷ [])) ∙ sym (ap (λ m. in_order (each m f)) n)

@@ -5,17 +5,17 @@ use Rattle.std.proofs.lemmas.Bool.{cases_lt}
 use Rattle.machine.specs.declared.outcome.Outcome.{Outcome}
 use Rattle.machine.specs.declared.outcome.Outcome.TheVariants.{Going, Ended}
 use Rattle.machine.proofs.Lemmas.{run-more, run-none}
-use Rattle.rv_step.specs.Known.{goes_on, AreMade}
+use Rattle.rv_step.specs.Known.{does_step, AreMade}
 use Rattle.campaign.specs.Found.{IsOn, StopsWithin, trap_pc_of, State, run}
 use Rattle.campaign.specs.Kept.{IsReach, Progress, progress}
 use Rattle.campaign.proofs.Stopping.{going_before, progress_state, ran_on, run_stays}
 
 -- ---- parts
-pub goes : (o : Outcome) → goes_on o ≡ true → o ≡ Going
+pub goes : (o : Outcome) → does_step o ≡ true → o ≡ Going
 goes Going h = refl
 goes o h = absurd (cc)
 
-pub stopped_not : (o : Outcome) → goes_on o ≡ false → o ≢ Going
+pub stopped_not : (o : Outcome) → does_step o ≡ false → o ≢ Going
 stopped_not Going h g = absurd (cc)
 stopped_not o h g = absurd (cc)
 

@@ -11,7 +11,7 @@ use Rattle.qed_model.specs.declared.verdict.Struck.{Struck}
 use Rattle.qed_model.specs.declared.verdict.Verdict.{Verdict}
 use Rattle.campaign.specs.Kept.{Pair}
 use Rattle.qed_model.specs.Promise.Changed.{Ordered}
-use Rattle.campaign.specs.Struck.{AreKnown, AreStruck, IsKnown, IsStrike, IsStruckNext}
+use Rattle.campaign.specs.Struck.{AreKnown, AreStruck, IsKnownVerdict, IsStrike, IsStruckNext}
 
 -- all are struck once those of the rest are struck behind those so far
 abbrev pub AreSoFar : Pair → List (List Change) → ℕ → List Struck → Type 0
@@ -58,16 +58,16 @@ none_known p strikes n found e k cs known there got =
     let within : k < length (replicate {A = Option Verdict} n None) = slice_get_within (replicate n None) k known all in
     let size : length (replicate {A = Option Verdict} n None) ≡ n = length-replicate n None in
     let none : known ≡ None = sym (get_or_from_slice_get (replicate n None) k known None all) ∙ get_or-replicate n k None None (omega (arith, within, size)) in
-    subst (IsKnown p cs) (sym none) tt
+    subst (IsKnownVerdict p cs) (sym none) tt
 
 -- one more verdict is known
 known_at :
     (p : Pair) (found after : List (Option Verdict)) (k j : ℕ) (ds : List Change) (r q : Option Verdict) → k < length found → after ≡ set found k r → slice_get after j ≡ Some q
-    → (j ≡ k → IsKnown p ds r) → (slice_get found j ≡ Some q → IsKnown p ds q) → (j ≡ k) ⊎ (j ≡ k → ⊥) → IsKnown p ds q
+    → (j ≡ k → IsKnownVerdict p ds r) → (slice_get found j ≡ Some q → IsKnownVerdict p ds q) → (j ≡ k) ⊎ (j ≡ k → ⊥) → IsKnownVerdict p ds q
 known_at p found after k j ds r q lt e got here before (inl same) =
     let at : get_or after j q ≡ q = get_or_from_slice_get after j q q got in
     let new : get_or after j q ≡ r = ap (λ xs. get_or xs j q) e ∙ ap (λ i. get_or (set found k r) i q) same ∙ get_or-set_same found k r q lt in
-    subst (IsKnown p ds) (sym new ∙ at) (here same)
+    subst (IsKnownVerdict p ds) (sym new ∙ at) (here same)
 known_at p found after k j ds r q lt e got here before (inr other) =
     let at : get_or after j q ≡ q = get_or_from_slice_get after j q q got in
     let old : get_or found j q ≡ q = sym (get_or-set_other found k j r q other) ∙ ap (λ xs. get_or xs j q) (sym e) ∙ at in
@@ -77,9 +77,9 @@ known_at p found after k j ds r q lt e got here before (inr other) =
 
 pub known_more :
     (p : Pair) (strikes : List (List Change)) (found after : List (Option Verdict)) (k : ℕ) (cs : List Change) (r : Option Verdict) → k < length found → slice_get strikes k ≡ Some cs
-    → after ≡ set found k r → IsKnown p cs r → AreKnown p strikes found → AreKnown p strikes after
+    → after ≡ set found k r → IsKnownVerdict p cs r → AreKnown p strikes found → AreKnown p strikes after
 known_more p strikes found after k cs r lt here e is so_far j ds q there got =
-    known_at p found after k j ds r q lt e got (λ same. subst (λ xs. IsKnown p xs r) (the_same same) is) (so_far j ds q there) (cases_eq j k)
+    known_at p found after k j ds r q lt e got (λ same. subst (λ xs. IsKnownVerdict p xs r) (the_same same) is) (so_far j ds q there) (cases_eq j k)
   where
     the_same : j ≡ k → cs ≡ ds
     the_same same = same_Some cs ds (sym here ∙ ap (slice_get strikes) (sym same) ∙ there)

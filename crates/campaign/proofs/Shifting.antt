@@ -4,7 +4,7 @@ use Rattle.std.specs.Prelude.{◌==◌, Option, Some, Result, Ok, Err, All}
 use Rattle.std.proofs.lemmas.Bool.{cases_lt, eq-eqb, ne_eqb, eqb-true}
 use Rattle.machine.specs.declared.outcome.Outcome.TheVariants.{Going, Ended, Fired}
 use Rattle.qed_model.specs.declared.verdict.Verdict.TheVariants as verdict
-use Rattle.machine.specs.Progress.{begun}
+use Rattle.machine.specs.Progress.{first_state}
 use Rattle.machine.specs.Step.{State, step, run}
 use Rattle.qed_model.specs.Promise.Changed.{changed, changed_as, with_changes, changed_run, Ordered, last_step}
 use Rattle.machine.proofs.Lemmas.{every_all, run-last, run-more}
@@ -20,7 +20,7 @@ use Rattle.campaign.proofs.Stopping.{going_before, behind}
 -- ---- no change comes before
 -- before the changes the run is the one without
 unchanged_before : (s : State) (cs : List Change) (n : ℕ) → AllFrom (n + 1) cs → changed_run s cs n ≡ run s n
-unchanged_before s cs n from = ap (λ p. p.state) (not_made (begun s) [] cs n from) ∙ run_unchanged s n
+unchanged_before s cs n from = ap (λ p. p.state) (not_made (first_state s) [] cs n from) ∙ run_unchanged s n
 
 -- the run up to the first changes: the run without changes, then the changes at its step
 up_to : (s : State) (cs : List Change) (m : ℕ) → AllFrom m cs → changed_run s cs m ≡ with_changes cs m (run s m)

@@ -7,7 +7,7 @@ use Rattle.machine.specs.declared.outcome.Outcome.TheVariants.{Going, Ended, Fir
 use Rattle.qed_model.specs.declared.verdict.Verdict.TheVariants as verdict
 use Rattle.machine.specs.Step.{State, run}
 use Rattle.campaign.specs.Found.{StopsWithin, trap_pc_of, verdict_of, input_shows, Stops, IsStill, IsSilentAt}
-use Rattle.campaign.specs.Verdict.{IsTried, IsFound, IsSilent, StopsAt, Shows, Change, changed_run, Ordered, last_step, Verdict, Outcome, is_trapped}
+use Rattle.campaign.specs.Verdict.{IsTried, IsFound, IsSilent, StopsAfter, Shows, Change, changed_run, Ordered, last_step, Verdict, Outcome, is_trapped}
 use Rattle.campaign.proofs.Stopping.{run_as, changed_as_at, changed_before, first_stop, behind, StopsBy}
 
 -- ---- a run that stops behind the last change
@@ -40,7 +40,7 @@ on_before s cs k o some h i l = by_case (cases_lt i (last_step cs)) where
       ap (λ n. (changed_run s cs n).outcome) (sym e) ∙ ap (λ y. y.outcome) (behind s cs (i - last_step cs) o) ∙ h (i - last_step cs) (omega arith)
 
 found_at :
-    (s : State) (cs : List Change) (b : ℕ) (how : Outcome) (k : ℕ) → Ordered cs → k ≤ b → StopsAt (run (changed_run s cs (last_step cs))) k
+    (s : State) (cs : List Change) (b : ℕ) (how : Outcome) (k : ℕ) → Ordered cs → k ≤ b → StopsAfter (run (changed_run s cs (last_step cs))) k
     → (run (changed_run s cs (last_step cs)) k).outcome ≡ how → IsFound s b cs how k
 unfolding run
 found_at s cs b how zero o l x e = stopped_before s cs b how x.stopped e

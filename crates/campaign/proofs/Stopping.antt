@@ -2,13 +2,13 @@
 use Rattle.std.proofs.Common.{◌≡◌, ◌⊎◌, inl, inr, ℕ, zero, suc, ◌+◌, ◌-◌, ◌<◌, ◌≤◌, Bool, true, false, cond, List, [], ◌∷◌, refl, sym, ap, ◌∙◌, arith, below_more}
 use Rattle.std.specs.Prelude.{◌≢◌, ◌==◌}
 use Rattle.machine.specs.declared.outcome.Outcome.TheVariants.{Going}
-use Rattle.machine.specs.Progress.{Progress, progress, advanced, begun}
+use Rattle.machine.specs.Progress.{Progress, progress, advanced, first_state}
 use Rattle.machine.specs.Step.{State, step_at, step, run}
 use Rattle.qed_model.specs.Promise.Changed.{changed, changed_as, with_changes, changed_run, Ordered, last_step}
 use Rattle.machine.proofs.Lemmas.{run-more}
 use Rattle.qed_model.proofs.Lemmas.{by_last}
 use Rattle.fault_inject.proofs.Changing.{plain}
-use Rattle.campaign.specs.Verdict.{StopsAt, Change, Outcome}
+use Rattle.campaign.specs.Verdict.{StopsAfter, Change, Outcome}
 
 -- ---- outcomes
 -- a run goes on or does not
@@ -75,7 +75,7 @@ changed_before s cs k n h g =
 pub record StopsBy (states : ℕ → State) (n : ℕ) : Type 0 where
   pub steps : ℕ
   pub within : steps ≤ n
-  pub stops : StopsAt states steps
+  pub stops : StopsAfter states steps
 
 -- a run goes on below n, or stops after at most n
 below : (states : ℕ → State) (n : ℕ) → ((k : ℕ) → k < n → (states k).outcome ≡ Going) ⊎ StopsBy states n
@@ -107,7 +107,7 @@ progress_state p (suc n) = progress_state (advanced p) n
 pub behind : (s : State) (cs : List Change) (k : ℕ) → Ordered cs → changed_run s cs (last_step cs + k) ≡ run (changed_run s cs (last_step cs)) k
 behind s cs k o =
     let by = by_last cs (last_step cs) o (omega arith) in
-    ap (λ p. p.state) (plain (begun s) cs (last_step cs) k by) ∙ progress_state _ k
+    ap (λ p. p.state) (plain (first_state s) cs (last_step cs) k by) ∙ progress_state _ k
 
 -- a machine that has made m steps makes n more
 pub ran_on : (s : State) (p q : Progress) (m n k : ℕ) → p.state ≡ run s m → q ≡ progress p n → m + n ≡ k → q.state ≡ run s k

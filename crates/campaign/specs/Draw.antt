@@ -13,7 +13,7 @@ pub use Rattle.qed_model.specs.declared.plan.Plan.{Plan}
 pub use Rattle.tests.specs.Admission.DataRanges.{range_of, word_count, word_address, ElfFile, data_ranges}
 pub use Rattle.machine.specs.Below.{each}
 pub use Rattle.qed_model.specs.Promise.Changed.{in_order, has_word, is_word, with_change}
-pub use Rattle.test_gen.specs.Random.{seeded, drawn, next, after}
+pub use Rattle.test_gen.specs.Random.{seeded, drawn, next_state, after}
 
 -- ---- places
 -- place q of 13 and the data words: x1 to x13, then the words
@@ -48,7 +48,7 @@ change_of spans reach aim first second third = record { step = aim.from + first 
 
 -- the change that the next three words give
 unfoldable pub drawn_change : List (ℕ × ℕ) → ℕ → Aim → Lcg → Change
-drawn_change spans reach aim g = change_of spans reach aim (drawn g) (drawn (next g)) (drawn (next (next g)))
+drawn_change spans reach aim g = change_of spans reach aim (drawn g) (drawn (next_state g)) (drawn (next_state (next_state g)))
 
 -- ---- strikes
 -- n changes, in the order of their steps; those of equal steps as they were drawn

@@ -5,7 +5,7 @@ use Rattle.qed_model.specs.declared.verdict.Verdict.TheVariants.{Closed, NotReac
 pub use Rattle.machine.specs.Step.{State, run}
 use Rattle.campaign.specs.declared.error.StrikeError.{StrikeError}
 use Rattle.campaign.specs.declared.error.StrikeError.TheVariants as error
-use Rattle.campaign.specs.Verdict.{GoesPast, IsTried, has_closed, StopsAt, Change, changed_run, last_step, Verdict, Outcome}
+use Rattle.campaign.specs.Verdict.{GoesPast, IsTried, has_closed, StopsAfter, Change, changed_run, last_step, Verdict, Outcome}
 
 -- ---- the run without changes
 -- the verdict that the run without changes shows
@@ -29,7 +29,7 @@ pub record IsOn (state : State) (made : ℕ) (after : State) : Type 0 where
 -- the run stops within n steps, in this state
 pub record StopsWithin (state : State) (n : ℕ) (after : State) (steps : ℕ) : Type 0 where
   pub within : steps ≤ n
-  pub stops : StopsAt (run state) steps
+  pub stops : StopsAfter (run state) steps
   pub there : after ≡ run state steps
 
 -- the answer for n steps: after how many the run stops, with the state there; None if it goes on
@@ -40,7 +40,7 @@ TellsStop s n after r = MatchOption r ((run s n).outcome ≡ outcome.Going) (Sto
 pub record Stops (state : State) (b : ℕ) (v : Verdict) : Type 0 where
   pub steps : ℕ
   pub within : steps ≤ b
-  pub stops : StopsAt (run state) steps
+  pub stops : StopsAfter (run state) steps
   pub shows : verdict_of (run state steps).outcome steps ≡ Some v
 
 -- the run shows no verdict by the end of the bound

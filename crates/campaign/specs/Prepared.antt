@@ -11,7 +11,8 @@ pub record Prepared : Type 0 where
   pub runs : Pair
 
 abbrev pub prepared_code : Coded Prepared
-prepared_code = code_by (Plan × Pair) (coded× (plan_contract.the_row).coded pair_code) (λ p. (p.plan, p.runs)) (λ p. record { plan = p.0; runs = p.1 }) (λ _. refl)
+prepared_code = code_by (Plan × Pair) (coded× (plan_contract.the_row).coded pair_code)
+    (λ p. (p.plan, p.runs)) (λ p. record { plan = p.0; runs = p.1 }) (λ _. refl)
 
 -- the runs are struck with the plan's bounds, and its data words can be struck
 pub record IsPrepared (plan : Plan) (runs : Pair) : Type 0 where

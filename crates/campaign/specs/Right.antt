@@ -3,14 +3,13 @@ use Rattle.std.specs.Prelude.{ℕ, zero, suc, ◌+◌, ◌-◌, ◌==◌, Bool, 
 use Rattle.std.specs.List.{list_all}
 use Rattle.rv_isa.specs.declared.profile.TheConstants.{ORIGINALS}
 use Rattle.qed_model.specs.declared.change.Change.{Change}
-use Rattle.machine.specs.declared.outcome.Outcome.{Outcome}
-use Rattle.machine.specs.declared.outcome.Outcome.TheVariants as outcome
 use Rattle.qed_model.specs.declared.verdict.Struck.{Struck}
 use Rattle.qed_model.specs.declared.verdict.Verdict.{Verdict}
 use Rattle.qed_model.specs.declared.verdict.Verdict.TheVariants.{Ended}
 pub use Rattle.machine.specs.Memory.{Memory, byte_at}
 use Rattle.machine.specs.Step.{State, reg, run}
 use Rattle.qed_model.specs.Promise.Changed.{changed_run, last_step}
+use Rattle.qed_model.specs.Promise.OwnSteps.{has_ended}
 use Rattle.campaign.specs.Kept.{Pair}
 
 -- ---- two states
@@ -32,10 +31,6 @@ abbrev pub same_values : State → State → List (ℕ × ℕ) → Bool
 same_values u v spans = same_regs u v && list_all (same_bytes u.memory v.memory) spans
 
 -- ---- the end
-abbrev pub has_ended : Outcome → Bool
-has_ended outcome.Ended = true
-has_ended _ = false
-
 -- the changed output ended k steps behind the last change; the input has ended by then, with equal values
 unfoldable pub ends_right : State → State → List (ℕ × ℕ) → List Change → ℕ → Bool
 ends_right input output spans cs k =

@@ -11,12 +11,13 @@ pub record IsStrike (bounds : Bounds) (cs : List Change) : Type 0 where
   pub bounded : IsSome (bound_of bounds cs)
 
 -- a verdict, if it is known, is that of a strike
-abbrev pub IsKnown : Pair → List Change → Option Verdict → Type 0
-IsKnown p cs known = IfSome known (λ v. IsVerdict p.input p.output p.bounds cs (Ok v))
+abbrev pub IsKnownVerdict : Pair → List Change → Option Verdict → Type 0
+IsKnownVerdict p cs known = IfSome known (λ v. IsVerdict p.input p.output p.bounds cs (Ok v))
 
 -- the known verdicts, by the numbers of their strikes
 abbrev pub AreKnown : Pair → List (List Change) → List (Option Verdict) → Type 0
-AreKnown p strikes found = (k : ℕ) (cs : List Change) (known : Option Verdict) → slice_get strikes k ≡ Some cs → slice_get found k ≡ Some known → IsKnown p cs known
+AreKnown p strikes found = (k : ℕ) (cs : List Change) (known : Option Verdict)
+    → slice_get strikes k ≡ Some cs → slice_get found k ≡ Some known → IsKnownVerdict p cs known
 
 -- a strike is added with its verdict, or the input traps at a pc and nothing is added
 abbrev pub IsStruckNext : Pair → List Change → List Struck → List Struck → Option ℕ → Type 0

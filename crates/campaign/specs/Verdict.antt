@@ -27,7 +27,7 @@ has_closed output cs = list_any (λ c. is_closed_place (run output c.step) c.pla
 
 -- ---- the changed run
 -- a run stops after this many steps
-pub record StopsAt (states : ℕ → State) (steps : ℕ) : Type 0 where
+pub record StopsAfter (states : ℕ → State) (steps : ℕ) : Type 0 where
   pub stopped : (states steps).outcome ≢ outcome.Going
   pub before : (k : ℕ) → k < steps → (states k).outcome ≡ outcome.Going
 
@@ -35,7 +35,7 @@ pub record StopsAt (states : ℕ → State) (steps : ℕ) : Type 0 where
 pub record IsFound (output : State) (b : ℕ) (cs : List Change) (how : Outcome) (k : ℕ) : Type 0 where
   pub steps : ℕ
   pub within : steps ≤ last_step cs + b
-  pub stops : StopsAt (changed_run output cs) steps
+  pub stops : StopsAfter (changed_run output cs) steps
   pub outcome : (changed_run output cs steps).outcome ≡ how
   pub later : k ≡ steps - last_step cs
 

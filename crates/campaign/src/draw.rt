@@ -3,7 +3,9 @@ ghost use Rattle.std.specs.Prelude.{◌≡◌, ◌+◌, ◌*◌, ◌%◌, ◌<�
 ghost use Rattle.rv_isa.specs.declared.profile.TheConstants.{ORIGINALS};
 ghost use Rattle.tests.specs.Admission.DataRanges.{range_of, word_address as word_address_of};
 ghost use Rattle.test_gen.specs.Random.{after};
-ghost use Rattle.campaign.specs.Draw.{numbered_place as place_of_number, has_place as has_place_of, drawn_place as drawn_place_of, window as window_of, drawn_change as drawn_change_of, drawn_strike as drawn_strike_of, strike_count as strike_count_of, drawn_strikes as drawn_strikes_of, HasWords};
+ghost use Rattle.campaign.specs.Draw.{numbered_place as place_of_number, has_place as has_place_of, drawn_place as drawn_place_of, window as window_of};
+ghost use Rattle.campaign.specs.Draw.{drawn_change as drawn_change_of, drawn_strike as drawn_strike_of, strike_count as strike_count_of};
+ghost use Rattle.campaign.specs.Draw.{drawn_strikes as drawn_strikes_of, HasWords};
 ghost use Rattle.campaign.specs.Struck.{IsStrike};
 
 use qed_model::{Aim, Change, Changes, Draws, Place, Places, Plan, Range, add_change};

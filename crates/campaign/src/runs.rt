@@ -11,7 +11,7 @@ ghost use Rattle.campaign.specs.Found.{input_shows};
 ghost use Rattle.campaign.specs.Kept.{IsReach, copies_up_to};
 ghost use Rattle.campaign.specs.Later.{first_step as first_step_of};
 ghost use Rattle.campaign.specs.Right.{ends_right as ends_right_of, is_right as is_right_of, rights as rights_of};
-ghost use Rattle.campaign.specs.Struck.{AreKnown, AreStruck, IsKnown, IsStrike, IsStruckNext};
+ghost use Rattle.campaign.specs.Struck.{AreKnown, AreStruck, IsKnownVerdict, IsStrike, IsStruckNext};
 ghost use Rattle.campaign.specs.Verdict.{IsVerdict};
 
 use crate::error::StrikeError;
@@ -229,7 +229,7 @@ impl Runs {
         requires trace { IsTrace self.now.output trace.now }
         requires strike { IsStrike self.now.bounds changes.now }
         requires there { output.now.state ≡ run self.now.output (first_step_of changes.now) }
-        ensures { IfOk result (IsKnown self.now changes.now) }
+        ensures { IfOk result (IsKnownVerdict self.now changes.now) }
     {
         let there = output.copy(alloc)?;
         match self.strike_at(alloc, trace, there, changes) {
@@ -368,7 +368,7 @@ impl Runs {
         struck: &mut Vec<Struck>,
     ) -> Result<Option<u64>, AllocError>
         requires strike { IsStrike self.now.bounds changes.now }
-        requires known { IsKnown self.now changes.now known }
+        requires known { IsKnownVerdict self.now changes.now known }
         ensures { IfOk result (IsStruckNext self.now changes.now struck.old.items struck.new.items) }
     {
         if let Some(verdict) = known {

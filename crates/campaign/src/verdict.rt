@@ -60,7 +60,8 @@ impl<'a> Strike<'a> {
     fn shown_by(&self, machine: &mut Machine) -> Result<Option<Verdict>, AllocError>
         requires there { machine.old.state ≡ run self.now.way.now.start self.now.start }
         requires ordered { Ordered self.now.changes.now }
-        ensures shown { IfOk result (λ v. MatchOption v (IsTried machine.old.state self.now.changes.now) (ShowsUnchanged machine.old.state self.now.changes.now)) }
+        ensures shown { IfOk result (λ v.
+            MatchOption v (IsTried machine.old.state self.now.changes.now) (ShowsUnchanged machine.old.state self.now.changes.now)) }
         ensures there { IfOk result (λ _. machine.new.state ≡ run machine.old.state (last_step_of self.now.changes.now)) }
     {
         let is_closed = self.has_closed(machine)?;
@@ -77,7 +78,8 @@ impl<'a> Strike<'a> {
     fn unchanged_verdict(&self, output: &mut Machine) -> Result<Option<Verdict>, AllocError>
         requires there { output.old.state ≡ run self.now.way.now.start self.now.start }
         requires ordered { Ordered self.now.changes.now }
-        ensures shown { IfOk result (λ v. MatchOption v (IsTried output.old.state self.now.changes.now) (ShowsUnchanged output.old.state self.now.changes.now)) }
+        ensures shown { IfOk result (λ v.
+            MatchOption v (IsTried output.old.state self.now.changes.now) (ShowsUnchanged output.old.state self.now.changes.now)) }
         ensures same { IfOk result (λ _. output.new.state ≡ output.old.state) }
     {
         if last_step(self.changes) == 0 {
@@ -119,7 +121,8 @@ impl<'a> Strike<'a> {
         requires trace { IsTrace self.now.way.now.start self.now.trace.now }
         requires there { output.state ≡ run self.now.way.now.start self.now.start }
         requires ordered { Ordered self.now.changes.now }
-        ensures { IfOk result (λ v. MatchOption v (IsSilentAt output.state self.now.bound self.now.changes.now) (λ v. (input : State) → Shows input output.state self.now.bound self.now.changes.now (Ok v))) }
+        ensures { IfOk result (λ v. MatchOption v (IsSilentAt output.state self.now.bound self.now.changes.now) (λ v.
+            (input : State) → Shows input output.state self.now.bound self.now.changes.now (Ok v))) }
     {
         let mut output = output;
         if let Some(verdict) = self.unchanged_verdict(&mut output)? {

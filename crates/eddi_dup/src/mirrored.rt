@@ -34,7 +34,8 @@ fn on_pairs(ins: &Ins) -> Item
 fn load_pair(ins: &Ins) -> [Item; 2]
     requires rd { ins.now.rd ≤ LAST_ORIGINAL }
     requires rs1 { ins.now.rs1 ≤ LAST_ORIGINAL }
-    ensures { result ≡ Item.Plain (ins_of Add TEMPORARY (pair_of ins.now.rs1) DISTANCE (pos 0)) ∷ Item.Plain (ins_of ins.now.kind (pair_of ins.now.rd) TEMPORARY 0 ins.now.imm) ∷ [] }
+    ensures { result ≡ Item.Plain (ins_of Add TEMPORARY (pair_of ins.now.rs1) DISTANCE (pos 0))
+        ∷ Item.Plain (ins_of ins.now.kind (pair_of ins.now.rd) TEMPORARY 0 ins.now.imm) ∷ [] }
 {
     let base = register(TEMPORARY);
     [
@@ -47,7 +48,8 @@ fn load_pair(ins: &Ins) -> [Item; 2]
 fn store_pair(ins: &Ins) -> [Item; 2]
     requires rs1 { ins.now.rs1 ≤ LAST_ORIGINAL }
     requires rs2 { ins.now.rs2 ≤ LAST_ORIGINAL }
-    ensures { result ≡ Item.Plain (ins_of Add TEMPORARY (pair_of ins.now.rs1) DISTANCE (pos 0)) ∷ Item.Plain (ins_of ins.now.kind 0 TEMPORARY (pair_of ins.now.rs2) ins.now.imm) ∷ [] }
+    ensures { result ≡ Item.Plain (ins_of Add TEMPORARY (pair_of ins.now.rs1) DISTANCE (pos 0))
+        ∷ Item.Plain (ins_of ins.now.kind 0 TEMPORARY (pair_of ins.now.rs2) ins.now.imm) ∷ [] }
 {
     let base = register(TEMPORARY);
     [

@@ -13,24 +13,24 @@ pub struct Original;
 impl Pass for Original {
     ghost use Rattle.weave_core.specs.Blocks.{FitsPiece};
     ghost use Rattle.machine.specs.Step.{step};
-    ghost use Rattle.passes.specs.Pass.{Does, same};
+    ghost use Rattle.passes.specs.Pass.{Does, same_state};
     ghost use Rattle.passes.specs.Uses.{used};
-    ghost use Rattle.eddi_dup.specs.Parts.{bare, bare_cost, Runs};
+    ghost use Rattle.eddi_dup.specs.Parts.{unguarded, bare_cost, StandsBefore};
     ghost use Rattle.eddi_dup.specs.Laws.{any, quiet_original, honest_original, lockstep_original};
 
     ghost is_for = { λ p i at. FitsPiece i };
 
     ghost suits = { λ p. any };
 
-    ghost items = { λ p i at. bare i at };
+    ghost items = { λ p i at. unguarded i at };
 
     ghost uses = { λ p i. used i };
 
     ghost cost = { λ p i. bare_cost i };
 
-    ghost needs = { λ p i at w v. Runs w i at v.original };
+    ghost needs = { λ p i at w v. StandsBefore w i at v.original };
 
-    ghost gives = { λ p i at w. Does w step same 1 };
+    ghost gives = { λ p i at w. Does w step same_state 1 };
 
     ghost leaves = { λ p i at w v n z. ⊥ };
 

@@ -14,6 +14,6 @@ pub record IsNextZero (strings : List ℕ) (from to at : ℕ) : Type 0 where
   pub before : (k : ℕ) → from ≤ k → k < at → slice_index strings k ≢ 0
   pub zero : at < to → slice_index strings at ≡ 0
 
--- each of these places is that of the first zero byte behind the multiple of 16 with its number, or the end of the table
+-- each place is that of the first zero byte behind the multiple of 16 with its number, or the end of the table
 pub record AreNextZeros (strings places : List ℕ) : Type 0 where
   pub each : (k : ℕ) → k < length places → IsNextZero strings (16 * k) (length strings) (slice_index places k)

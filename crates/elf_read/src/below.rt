@@ -1,6 +1,6 @@
 //! The numbers below a bound, as those of the records of a table.
 ghost use Rattle.std.specs.Prelude.{◌≡◌, ◌<◌, ◌≤◌, ◌*◌, ◌^◌, ℕ, Bool, true, IfSome, IfOk};
-ghost use Rattle.machine.specs.Below.{first, sum_below, each};
+ghost use Rattle.machine.specs.Below.{first_below, sum_below, each};
 
 use std::alloc::{AllocError, Global};
 
@@ -9,7 +9,7 @@ pub fn first_of<F: Fn(u64) -> bool>(n: u64, test: &F) -> Option<u64>
     requires { (i : ℕ) → i < n → F.pre test.now i }
     ensures below { IfSome result (λ i. i < n) }
     ensures passes { IfSome result (λ i. F.post test.now i true) }
-    ensures first { (p : ℕ → Bool) → ((i : ℕ) (b : Bool) → i < n → F.post test.now i b → b ≡ p i) → result ≡ first n p }
+    ensures first { (p : ℕ → Bool) → ((i : ℕ) (b : Bool) → i < n → F.post test.now i b → b ≡ p i) → result ≡ first_below n p }
 {
     for i in 0..n {
         if test(i) {

@@ -1,6 +1,5 @@
-//! Reads ELF64 executables for RISC-V. A file is taken where no rule refuses it; otherwise the first rule that does is named,
-//! with its place. All rules are tested before anything is copied, and the tests need no memory: where there is some they
-//! are quick.
+//! Reads ELF64 executables for RISC-V, or names the first rule that refuses the file, with its place. All rules are
+//! tested before anything is copied. The tests need no memory; with memory they are quick.
 #![tactic(auto)]
 
 mod below;

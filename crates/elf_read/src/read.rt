@@ -5,7 +5,7 @@ ghost use Rattle.machine.specs.Below.{each};
 ghost use Rattle.tests.specs.Files.Header.{e_phnum, e_shnum};
 ghost use Rattle.tests.specs.Files.Rules.{is_section_outside, is_segment_outside, section_strings, strings_of, symbol_table, part_rules, verdict, read_verdict};
 ghost use Rattle.tests.specs.Files.File.{File, load_bytes, segment_of, section_of, symbol_of, symbols_at, IsReadAs};
-ghost use Rattle.tests.specs.Files.Refusals.{IsAccepted, IsRefused};
+ghost use Rattle.tests.specs.Files.Refusals.{IsAccepted, IsFileRefused};
 ghost use Rattle.tests.specs.Elf.Sound.{IsSound};
 ghost use Rattle.machine.specs.Loading.{load_segments};
 ghost use Rattle.machine.specs.Apart.{AllFitMemory, AreApart};
@@ -153,14 +153,14 @@ fn elf_file(file: &Parts, alloc: Global, shared: &Shared) -> Result<ElfFile, All
     })
 }
 
-/// The file that bytes are (ELF gABI, RISC-V ELF psABI), where it is within the limits of the reader; or the first rule
+/// The file that bytes are (ELF gABI, RISC-V ELF psABI), if it is within the limits of the reader; or the first rule
 /// that refuses them, or else the first limit that they exceed. Rules and limits are those of `ElfError`, in its order,
 /// each over the whole file before the next. A refusal needs no memory.
 ///
 /// # Errors
 ///
-/// `Memory` where no rule refuses the bytes, they are within the limits, and there is no memory for the copy. Each other error comes exactly where
-/// it is the first that holds.
+/// `Memory` if no rule refuses the bytes, they are within the limits, and the memory is too small for the copy. Each
+/// other error comes exactly if it is the first that holds.
 #[tactic(auto, using(tests::proofs::RefusalLaws::refused, tests::proofs::AcceptanceLaws::accepted, tests::proofs::LoadsApart::file_fits))]
 pub fn read_elf(alloc: Global, bytes: &[u8]) -> Result<ElfFile, ElfError>
     ensures read { IfOk result (λ f. IsReadAs bytes.now f) }
@@ -168,7 +168,7 @@ pub fn read_elf(alloc: Global, bytes: &[u8]) -> Result<ElfFile, ElfError>
     ensures sound { IfOk result IsSound }
     ensures fit { IfOk result (λ f. AllFitMemory (load_segments f.segments)) }
     ensures apart { IfOk result (λ f. AreApart (load_segments f.segments)) }
-    ensures refused { IfErr result (λ e. IsRefused bytes.now e ⊎ ((e ≡ error.Memory) × (read_verdict bytes.now ≡ Ok tt))) }
+    ensures refused { IfErr result (λ e. IsFileRefused bytes.now e ⊎ ((e ≡ error.Memory) × (read_verdict bytes.now ≡ Ok tt))) }
 {
     let sound = sound(alloc, bytes)?;
     let shared = Shared::copied(alloc, bytes)?;
@@ -187,14 +187,14 @@ pub fn read_shared(alloc: Global, file: &Shared) -> Result<ElfFile, ElfError>
     ensures sound { IfOk result IsSound }
     ensures fit { IfOk result (λ f. AllFitMemory (load_segments f.segments)) }
     ensures apart { IfOk result (λ f. AreApart (load_segments f.segments)) }
-    ensures refused { IfErr result (λ e. IsRefused file.now e ⊎ ((e ≡ error.Memory) × (read_verdict file.now ≡ Ok tt))) }
+    ensures refused { IfErr result (λ e. IsFileRefused file.now e ⊎ ((e ≡ error.Memory) × (read_verdict file.now ≡ Ok tt))) }
 {
     let sound = sound(alloc, file.as_slice())?;
     Ok(elf_file(&sound, alloc, file)?)
 }
 
-/// The sections of the file that bytes are, where its parts lie in it: as in `read_elf`, but the other rules and the limits are not
-/// tested, and nothing else is read.
+/// The sections of the file that bytes are, if its parts lie in it as `read_elf` asks. The other rules and the limits
+/// are not tested, and nothing else is read.
 ///
 /// # Errors
 ///

@@ -3,7 +3,7 @@ ghost use Rattle.std.specs.Prelude.{◌≡◌, ◌<◌, ◌+◌, ◌*◌, ◌≤
 ghost use Rattle.machine.specs.Below.{gather};
 ghost use Rattle.tests.specs.Files.Header.{e_shnum};
 ghost use Rattle.tests.specs.Files.Fields.{section_header, rela_entry};
-ghost use Rattle.tests.specs.Files.Rules.{symbol_table, symbol_count, is_counted, rela_fault, rela_shape_rule};
+ghost use Rattle.tests.specs.Files.Rules.{symbol_table, symbol_count, is_counted_section, rela_fault, rela_shape_rule};
 ghost use Rattle.tests.specs.Files.File.{relas_of};
 
 use crate::below::first_of;
@@ -32,7 +32,7 @@ fn rela_at(table: &[u8], k: u64) -> Rela
 // Whether the entries of a section are read: relocations of a section in memory, against the symbol table.
 fn is_counted(file: &Parts, table: Option<u64>, s: SectionHeader) -> bool
     requires { table ≡ symbol_table file.now }
-    ensures { result ≡ is_counted file.now s }
+    ensures { result ≡ is_counted_section file.now s }
 {
     if !s.is_rela_table() || u64::from(s.info) >= file.tables().shnum() {
         return false;

@@ -42,8 +42,8 @@ fn overlapped(file: &Parts, i: u64) -> Option<u64>
     )
 }
 
-/// Whether no two segments share a byte of memory. They are compared in the order of their addresses; where there is no
-/// memory for that, each with each.
+/// Whether no two segments share a byte of memory. They are compared in the order of their addresses, or without memory
+/// for that each with each.
 #[tactic(auto, unfolding(tests::specs::Files::Rules::segment_overlap_rule))]
 pub fn check_segment_overlap(file: &Parts, alloc: Global) -> Result<(), ElfError>
     ensures { result ≡ segment_overlap_rule file.now }

@@ -18,7 +18,7 @@ pub struct Strings<'a> {
     bytes: &'a [u8],
     /// One past the last zero byte, or 0 where there is none.
     end: u64,
-    /// The place of the first zero byte at or behind each multiple of `STRIDE`, as far as there was memory for it.
+    /// The place of the first zero byte at or behind each multiple of `STRIDE`, as many as there was memory for.
     zeros: Vec<usize>,
 }
 
@@ -57,7 +57,7 @@ fn next_zero(bytes: &[u8], from: usize, to: usize) -> usize
     to
 }
 
-// The place of the first zero byte at or behind each multiple of the stride, as far as there is memory for it.
+// The place of the first zero byte at or behind each multiple of the stride, as many as there is memory for.
 fn next_zeros(alloc: Global, bytes: &[u8]) -> Vec<usize>
     ensures { AreNextZeros bytes.now result.items }
 {

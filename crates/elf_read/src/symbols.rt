@@ -29,7 +29,7 @@ pub fn entry_at(table: &[u8], j: u64) -> SymbolEntry
     }
 }
 
-/// Where the name of a symbol begins, of which the other fields are not read.
+/// Where the name of a symbol begins. Its other fields are not read.
 #[tactic(auto, unfolding(tests::specs::Files::Fields::symbol_entry))]
 fn name_at(table: &[u8], j: u64) -> u32
     requires { 24 * j + 24 ≤ length table.now }

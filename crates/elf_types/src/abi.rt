@@ -95,7 +95,7 @@ pub const SHN_ABS: u16 = 0xfff1;
 /// The size of a symbol, in bytes (`Elf64_Sym`).
 pub const SYM_SIZE: u64 = 24;
 
-/// The type of symbols of which none is said.
+/// The type of a symbol whose type is not given.
 pub const STT_NOTYPE: u8 = 0;
 
 /// The type of symbols that name data.

@@ -119,7 +119,7 @@ impl Bytes {
         Ok(bytes)
     }
 
-    /// The same bytes, to be shared. They are not copied where they have memory of their own.
+    /// These bytes, to be shared. They are not copied if they have memory of their own.
     pub fn into_shared(self, alloc: Global) -> Result<Shared, AllocError>
         ensures { IfOk result (λ shared. shared ≡ self) }
     {

@@ -63,7 +63,7 @@ pub enum ElfError {
     /// The bytes of segments and names are more than 1,073,741,824: how many.
     #[error("{0} bytes")]
     TooManyBytes(u64),
-    /// There is no memory.
+    /// Out of memory.
     #[error("out of memory")]
     Memory,
 }

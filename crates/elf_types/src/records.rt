@@ -1,4 +1,4 @@
-//! The records of the tables, as far as they are read. Offsets are in bytes from the file's first.
+//! The records of the tables, with the fields that are read. Offsets are in bytes from the file's first.
 ghost use Rattle.std.specs.Prelude.{◌≡◌};
 ghost use Rattle.elf_types.specs.Abi.{is_load, has_alloc, is_symbol_table, is_string_table, is_rela_table};
 ghost use Rattle.elf_types.specs.Section.{has_bytes};

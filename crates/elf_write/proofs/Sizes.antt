@@ -8,8 +8,8 @@ use Rattle.elf_types.specs.declared.output.OutSection.{OutSection}
 use Rattle.elf_types.specs.declared.records.SectionHeader.{SectionHeader}
 use Rattle.elf_types.specs.declared.records.SymbolEntry.{SymbolEntry}
 use Rattle.tests.specs.Elf.Written.{fields_bytes, program_headers, segments_bytes, end_from}
-use Rattle.tests.specs.Elf.Layout.{names_bytes, string_table, symbol_names, section_names, table_names, symbol_fields, symbol_bytes, symbols_bytes, entries_from, entries_of, own_bytes, section_fields, header_bytes, headers_bytes, headers_from, headers_of, table_headers, file_fields, file_header, start_of, own_place, symbols_place, strings_place, names_place, headers_place, tables_bytes, written}
-use Rattle.elf_write.specs.Places.{EndsWithin}
+use Rattle.tests.specs.Elf.Layout.{names_bytes, string_table, symbol_names, section_names, table_names, symbol_fields, symbol_bytes, symbols_bytes, entries_from, symbol_entries, own_bytes, section_fields, header_bytes, headers_bytes, headers_from, headers_of, table_headers, file_fields, file_header, parts_start, own_place, symbols_place, strings_place, names_place, headers_place, tables_bytes, written}
+use Rattle.elf_write.specs.Places.{PartsEndWithin}
 use Rattle.tests.proofs.Lemmas.{length-fields_bytes, length-program_headers, length-segments_bytes}
 use Rattle.elf_write.proofs.Stands.{Stands, Ends, ends_left, ends_right, ends_whole}
 
@@ -41,8 +41,8 @@ length-headers_from start segments name own (x ∷ sections) =
 pub length-headers_of : (f : OutFile) → length (headers_of f) ≡ length f.sections + 4
 unfolding headers_of table_headers
 length-headers_of f =
-    let given : List SectionHeader = headers_from (start_of f) f.segments 1 (own_place f) f.sections in
-    omega (arith, length-append given (table_headers f), length-headers_from (start_of f) f.segments 1 (own_place f) f.sections)
+    let given : List SectionHeader = headers_from (parts_start f) f.segments 1 (own_place f) f.sections in
+    omega (arith, length-append given (table_headers f), length-headers_from (parts_start f) f.segments 1 (own_place f) f.sections)
 
 -- headers in two lists
 pub headers_bytes-append : (xs ys : List SectionHeader) → headers_bytes (xs ++ ys) ≡ headers_bytes xs ++ headers_bytes ys
@@ -65,7 +65,7 @@ length-section_names sections =
 -- ---- places
 -- each part stands behind the ones before it
 pub record IsLaidOut (f : OutFile) : Type 0 where
-  pub own : end_from (start_of f) f.segments ≡ own_place f
+  pub own : end_from (parts_start f) f.segments ≡ own_place f
   pub symbols : own_place f + length (own_bytes f.sections) ≤ symbols_place f
   pub strings : symbols_place f + 24 * (1 + length f.symbols) ≡ strings_place f
   pub names : strings_place f + length (string_table (symbol_names f.symbols)) ≡ names_place f
@@ -77,9 +77,9 @@ laid_out f = record { own = refl; symbols = omega arith; strings = refl; names =
 
 -- ---- where they stand in a file
 pub record PartsStand (f : OutFile) (file : List ℕ) : Type 0 where
-  pub programs : Stands file 64 (program_headers (start_of f) f.segments)
-  pub segments : Stands file (start_of f) (segments_bytes (start_of f) f.segments)
-  pub symbols : Stands file (symbols_place f) (symbols_bytes (entries_of f.symbols))
+  pub programs : Stands file 64 (program_headers (parts_start f) f.segments)
+  pub segments : Stands file (parts_start f) (segments_bytes (parts_start f) f.segments)
+  pub symbols : Stands file (symbols_place f) (symbols_bytes (symbol_entries f.symbols))
   pub strings : Stands file (strings_place f) (string_table (symbol_names f.symbols))
   pub names : Stands file (names_place f) (string_table (section_names f.sections))
   pub headers : Stands file (headers_place f) (headers_bytes (headers_of f))
@@ -90,10 +90,10 @@ unfolding written tables_bytes
 parts_stand f =
     let is = laid_out f in
     let header : List ℕ = file_header f in
-    let programs : List ℕ = program_headers (start_of f) f.segments in
-    let segments : List ℕ = segments_bytes (start_of f) f.segments in
+    let programs : List ℕ = program_headers (parts_start f) f.segments in
+    let segments : List ℕ = segments_bytes (parts_start f) f.segments in
     let own : List ℕ = own_bytes f.sections in
-    let entries : List ℕ = symbols_bytes (entries_of f.symbols) in
+    let entries : List ℕ = symbols_bytes (symbol_entries f.symbols) in
     let strings : List ℕ = string_table (symbol_names f.symbols) in
     let names : List ℕ = string_table (section_names f.sections) in
     let headers : List ℕ = headers_bytes (headers_of f) in
@@ -104,11 +104,11 @@ parts_stand f =
     let tables : List ℕ = own ++ (before ++ (entries ++ (strings ++ (names ++ (behind ++ headers))))) in
     let whole : Ends (header ++ (programs ++ (segments ++ tables))) 0 (header ++ (programs ++ (segments ++ tables))) = record { front = []; parts = refl; before = refl } in
     let s1 = ends_right 64 header (programs ++ (segments ++ tables)) (omega (arith, length-file_fields f.entry f.flags (length f.segments) (headers_place f) (length f.sections))) whole in
-    let s2 = ends_right (start_of f) programs (segments ++ tables) (omega (arith, length-program_headers (start_of f) f.segments)) s1 in
-    let s3 = ends_right (own_place f) segments tables (length-segments_bytes (start_of f) f.segments ∙ is.own) s2 in
+    let s2 = ends_right (parts_start f) programs (segments ++ tables) (omega (arith, length-program_headers (parts_start f) f.segments)) s1 in
+    let s3 = ends_right (own_place f) segments tables (length-segments_bytes (parts_start f) f.segments ∙ is.own) s2 in
     let s4 = ends_right (own_place f + length own) own (before ++ (entries ++ (strings ++ (names ++ (behind ++ headers))))) refl s3 in
     let s5 = ends_right (symbols_place f) before (entries ++ (strings ++ (names ++ (behind ++ headers)))) (omega (arith, long)) s4 in
-    let s6 = ends_right (strings_place f) entries (strings ++ (names ++ (behind ++ headers))) (omega (arith, length-symbols_bytes (entries_of f.symbols), length-entries_from 1 f.symbols)) s5 in
+    let s6 = ends_right (strings_place f) entries (strings ++ (names ++ (behind ++ headers))) (omega (arith, length-symbols_bytes (symbol_entries f.symbols), length-entries_from 1 f.symbols)) s5 in
     let s7 = ends_right (names_place f) strings (names ++ (behind ++ headers)) is.names s6 in
     let s8 = ends_right (names_place f + length names) names (behind ++ headers) refl s7 in
     let s9 = ends_right (headers_place f) behind headers (omega (arith, after)) s8 in
@@ -127,7 +127,7 @@ pub length-written : (f : OutFile) → length (written f) ≡ headers_place f + 
 length-written f = let p = parts_stand f in omega (arith, p.size, length-headers_bytes (headers_of f), length-headers_of f)
 
 -- the parts of a file that is not too long lie within that bound
-pub ends_within : (n : ℕ) (f : OutFile) → length (written f) ≤ n → EndsWithin n f
+pub ends_within : (n : ℕ) (f : OutFile) → length (written f) ≤ n → PartsEndWithin n f
 ends_within n f h =
     let is = laid_out f in
     let long = length-written f in

@@ -11,7 +11,7 @@ use Rattle.tests.specs.Files.Header.{e_shnum}
 use Rattle.tests.specs.Files.Fields.{section_header, symbol_entry}
 use Rattle.tests.specs.Files.Rules.{is_unended, name_at, section_bytes, strings_of, is_misnamed, symbols_rule, symbol_shape_rule, symbol_table, symbol_name, symbol_name_bytes}
 use Rattle.tests.specs.Files.File.{symbol_of, symbols_at}
-use Rattle.tests.specs.Elf.Layout.{string_table, symbol_names, names_bytes, symbol_fields, symbols_bytes, entry_with, entries_from, null_entry, entries_of, symtab_header, null_symbol, IsName, IsSymbol}
+use Rattle.tests.specs.Elf.Layout.{string_table, symbol_names, names_bytes, symbol_fields, symbols_bytes, entry_with, entries_from, null_entry, symbol_entries, symtab_header, null_symbol, IsName, IsSymbol}
 use Rattle.machine.proofs.Lemmas.{first_none}
 use Rattle.elf_write.specs.Widths.{SymbolFits}
 use Rattle.elf_write.proofs.Sizes.{length-entries_from}
@@ -62,7 +62,7 @@ entries_shown table name (x ∷ symbols) small above are fits names s =
 
 -- the null symbol and the given ones
 all_shown : (symbols : List Symbol) → length (string_table (symbol_names symbols)) < 2 ^ 32 → All IsSymbol symbols → All SymbolFits symbols → All (λ s. IsName s.name) symbols
-    → EntriesRead (string_table (symbol_names symbols)) (entries_of symbols) (null_symbol ∷ symbols)
+    → EntriesRead (string_table (symbol_names symbols)) (symbol_entries symbols) (null_symbol ∷ symbols)
 all_shown symbols small are fits names =
     let table : List ℕ = string_table (symbol_names symbols) in
     let rest = entries_shown table 1 symbols small (omega arith) are fits names (names_stand (symbol_names symbols)) in
@@ -85,22 +85,22 @@ unfolding symbol_of
 symbol_sum file None = refl
 symbol_sum file (Some i) = sum_each (λ (s : Symbol). length s.name) ((section_header file i).size / 24) (symbol_of file (section_header file i))
 
-module _ (f : OutFile) (file : List ℕ) (known : Known f file) (read : EntriesRead (string_table (symbol_names f.symbols)) (entries_of f.symbols) (null_symbol ∷ f.symbols)) where
+module _ (f : OutFile) (file : List ℕ) (known : Known f file) (read : EntriesRead (string_table (symbol_names f.symbols)) (symbol_entries f.symbols) (null_symbol ∷ f.symbols)) where
   abbrev names : List ℕ
   names = string_table (symbol_names f.symbols)
 
   abbrev table : List ℕ
-  table = symbols_bytes (entries_of f.symbols)
+  table = symbols_bytes (symbol_entries f.symbols)
 
   abbrev n : ℕ
-  n = length (entries_of f.symbols)
+  n = length (symbol_entries f.symbols)
 
   strings : strings_of file (symtab_header f) ≡ names
   unfolding strings_of
   strings = ap (section_bytes file) (strtab_at f file known) ∙ strings_are f file known
 
-  entries : each n (symbol_entry table) ≡ entries_of f.symbols
-  entries = entries_read table (entries_of f.symbols) (λ j d lt. (read.pass j d lt).fits) (stands_whole table)
+  entries : each n (symbol_entry table) ≡ symbol_entries f.symbols
+  entries = entries_read table (symbol_entries f.symbols) (λ j d lt. (read.pass j d lt).fits) (stands_whole table)
 
   count : 24 * (1 + length f.symbols) / 24 ≡ n
   count = omega (arith, length-entries_from 1 f.symbols)
@@ -108,7 +108,7 @@ module _ (f : OutFile) (file : List ℕ) (known : Known f file) (read : EntriesR
   named : (j : ℕ) → j < n → is_misnamed file (symtab_header f) j ≡ false
   unfolding is_misnamed
   named j lt =
-      let pass = each_has (Passes names) n (symbol_entry table) (entries_of f.symbols) entries read.pass j lt in
+      let pass = each_has (Passes names) n (symbol_entry table) (symbol_entries f.symbols) entries read.pass j lt in
       let same : is_unended (strings_of file (symtab_header f)) (symbol_entry (section_bytes file (symtab_header f)) j).name ≡ false = rw (strings, entries_are f file known) pass.ended in
       rw same (and-false (ltb 0 j))
 

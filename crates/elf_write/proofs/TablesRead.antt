@@ -1,4 +1,4 @@
--- The section headers of a file that was written, as a whole: the tables that are added, and what the rules ask of sections.
+-- The section headers of a written file as a whole: the added tables, and what the rules ask of sections.
 use Rattle.std.proofs.Common.{◌≡◌, ℕ, ◌+◌, ◌*◌, ◌<◌, ◌&&◌, not, Bool, true, false, ltb, eqb, List, [], ◌∷◌, ◌++◌, length, get_or, Some, Ok, refl, sym, ap, subst, ◌∙◌, arith}
 use Rattle.std.specs.Prelude.{All}
 use Rattle.std.specs.Option.{is_some}
@@ -15,7 +15,7 @@ use Rattle.tests.specs.Files.Header.{e_shnum}
 use Rattle.tests.specs.Files.Fields.{e_shstrndx, section_header}
 use Rattle.tests.specs.Files.Rules.{names_header, is_unended, is_section_outside, section_place_rule, section_bytes, is_section_misshapen, section_shape_rule, section_strings, symbol_table, rela_fault, rela_shape_rule}
 use Rattle.tests.specs.Files.File.{relas_of}
-use Rattle.tests.specs.Elf.Layout.{string_table, symbol_names, section_names, symbols_bytes, entries_of, start_of, own_place, symbols_place, strings_place, names_place, table_header, null_header, headers_from, symtab_header, strtab_header, shstrtab_header, table_headers, headers_of}
+use Rattle.tests.specs.Elf.Layout.{string_table, symbol_names, section_names, symbols_bytes, symbol_entries, parts_start, own_place, symbols_place, strings_place, names_place, table_header, null_header, headers_from, symtab_header, strtab_header, shstrtab_header, table_headers, headers_of}
 use Rattle.machine.proofs.Lemmas.{first_found, first_none, gather_nothing}
 use Rattle.elf_write.proofs.Sizes.{PartsStand, length-headers_from, length-symbols_bytes, length-entries_from}
 use Rattle.elf_write.proofs.Stands.{Stands, stands_slice}
@@ -26,7 +26,7 @@ use Rattle.elf_write.proofs.SectionsRead.{Passes}
 
 -- ---- the headers in order
 abbrev pub given_headers : OutFile → List SectionHeader
-given_headers f = headers_from (start_of f) f.segments 1 (own_place f) f.sections
+given_headers f = headers_from (parts_start f) f.segments 1 (own_place f) f.sections
 
 -- the null section and the given ones
 abbrev pub front_headers : OutFile → List SectionHeader
@@ -60,7 +60,7 @@ header_at f file known i d lt = sym (get_each (e_shnum file) (section_header fil
 -- header k behind the null section and the given ones
 behind : (f : OutFile) (file : List ℕ) → Known f file → (k : ℕ) → k < 3 → section_header file (length f.sections + 1 + k) ≡ get_or (last_headers f) k null_header
 behind f file known k lt =
-    let e : length (front_headers f) + k ≡ length f.sections + 1 + k = omega (arith, length-headers_from (start_of f) f.segments 1 (own_place f) f.sections) in
+    let e : length (front_headers f) + k ≡ length f.sections + 1 + k = omega (arith, length-headers_from (parts_start f) f.segments 1 (own_place f) f.sections) in
     header_at f file known (length f.sections + 1 + k) null_header (omega arith) ∙ ap (λ (j : ℕ). get_or (front_headers f ++ last_headers f) j null_header) (sym e) ∙ get_or-append-add (front_headers f) (last_headers f) k null_header
 
 pub symtab_at : (f : OutFile) (file : List ℕ) → Known f file → section_header file (length f.sections + 1) ≡ symtab_header f
@@ -80,10 +80,10 @@ table_bytes file name kind at size xs link info entsize a b e some s =
     let test : ltb 0 (length xs) ≡ true = grind (arith, nat_tests) in
     rw (a, b, e, test) (stands_slice xs s)
 
-pub entries_are : (f : OutFile) (file : List ℕ) → Known f file → section_bytes file (symtab_header f) ≡ symbols_bytes (entries_of f.symbols)
+pub entries_are : (f : OutFile) (file : List ℕ) → Known f file → section_bytes file (symtab_header f) ≡ symbols_bytes (symbol_entries f.symbols)
 entries_are f file known =
-    let long : 24 * (1 + length f.symbols) ≡ length (symbols_bytes (entries_of f.symbols)) = omega (arith, length-symbols_bytes (entries_of f.symbols), length-entries_from 1 f.symbols) in
-    table_bytes file _ 2 (symbols_place f) (24 * (1 + length f.symbols)) (symbols_bytes (entries_of f.symbols)) _ _ 24 refl refl long (omega (arith, long)) known.parts.symbols
+    let long : 24 * (1 + length f.symbols) ≡ length (symbols_bytes (symbol_entries f.symbols)) = omega (arith, length-symbols_bytes (symbol_entries f.symbols), length-entries_from 1 f.symbols) in
+    table_bytes file _ 2 (symbols_place f) (24 * (1 + length f.symbols)) (symbols_bytes (symbol_entries f.symbols)) _ _ 24 refl refl long (omega (arith, long)) known.parts.symbols
 
 pub strings_are : (f : OutFile) (file : List ℕ) → Known f file → section_bytes file (strtab_header f) ≡ string_table (symbol_names f.symbols)
 strings_are f file known = table_bytes file _ 3 (strings_place f) _ (string_table (symbol_names f.symbols)) 0 0 0 refl refl refl (omega arith) known.parts.strings
@@ -134,7 +134,7 @@ shape_passes f file known = rw (first_none (e_shnum file) (is_section_misshapen 
 pub symbol_table-is : (f : OutFile) (file : List ℕ) → Known f file → symbol_table file ≡ Some (length f.sections + 1)
 unfolding symbol_table
 symbol_table-is f file known =
-    let long = length-headers_from (start_of f) f.segments 1 (own_place f) f.sections in
+    let long = length-headers_from (parts_start f) f.segments 1 (own_place f) f.sections in
     let others = All-cons (λ (h : SectionHeader). eqb h.kind 2 ≡ false) null_header (given_headers f) refl (λ k d lt. rw (known.given k d lt) refl) in
     first_found (e_shnum file) (λ i. eqb (section_header file i).kind 2) (length f.sections + 1) (omega (arith, known.header.shnum)) (rw (symtab_at f file known) refl)
     (λ j lt.

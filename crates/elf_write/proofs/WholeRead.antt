@@ -15,7 +15,7 @@ use Rattle.tests.specs.Files.Fields.{program_header, section_header}
 use Rattle.tests.specs.Files.Rules.{program_table_rule, section_table_rule, table_rules, part_rules, section_strings, section_name, symbol_table, file_size, counted_bytes, verdict}
 use Rattle.tests.specs.Files.File.{section_of, IsReadAs}
 use Rattle.tests.specs.Elf.Written.{program_headers}
-use Rattle.tests.specs.Elf.Layout.{IsWritable, alignment, table_header, names_bytes, string_table, symbol_names, section_names, table_names, symtab_name, strtab_name, shstrtab_name, first_global, headers_bytes, headers_of, null_header, start_of, own_place, headers_place, written}
+use Rattle.tests.specs.Elf.Layout.{IsWritable, alignment, table_header, names_bytes, string_table, symbol_names, section_names, table_names, symtab_name, strtab_name, shstrtab_name, first_global, headers_bytes, headers_of, null_header, parts_start, own_place, headers_place, written}
 use Rattle.tests.specs.Elf.FileRead.{null_section, section_read, table_read, tables_read, file_read}
 use Rattle.tests.proofs.Lemmas.{length-program_headers, name_test}
 use Rattle.elf_write.specs.Widths.{SegmentFits, SectionFits, SymbolFits}
@@ -77,7 +77,7 @@ headers_shown f w fits =
     let named = length-section_names f.sections in
     let global = global_below 1 f.symbols in
     let none = empty_read table in
-    let given = given_read table n (start_of f) f.segments table_names (omega (arith, w.size)) (omega arith) (omega arith) w.segments 1 (own_place f) f.sections (omega arith) (omega arith) fits w.sections w.section_names s in
+    let given = given_read table n (parts_start f) f.segments table_names (omega (arith, w.size)) (omega arith) (omega arith) w.segments 1 (own_place f) f.sections (omega arith) (omega arith) fits w.sections w.section_names s in
     let names : List (List ℕ) = map (λ (x : OutSection). x.name) f.sections in
     let at : ℕ = length (string_table names) in
     let one = stands_right at (names_bytes names) (names_bytes table_names) (omega arith) (subst (Stands table 1) (names_bytes-append names table_names) s) in
@@ -124,7 +124,7 @@ unfolding section_of
 section_sum file = sum_each (λ (s : Section). length s.name) (e_shnum file) (section_of file)
 
 -- ---- the counted bytes
-few_bytes : (f : OutFile) (file : List ℕ) → each (e_shnum file) (section_of file) ≡ null_section ∷ (map section_read f.sections ++ tables_read f) → SegmentsPass file (start_of f) f.segments → SymbolsRead f file
+few_bytes : (f : OutFile) (file : List ℕ) → each (e_shnum file) (section_of file) ≡ null_section ∷ (map section_read f.sections ++ tables_read f) → SegmentsPass file (parts_start f) f.segments → SymbolsRead f file
     → headers_place f ≤ 1073741824 → counted_bytes file ≤ 1073741824
 unfolding counted_bytes
 few_bytes f file sections segments symbols small =
@@ -168,10 +168,10 @@ reads_back f w he hf segments_fit sections_fit symbols_fit =
     let long = length-written f in
     let read = headers_shown f w sections_fit in
     let known = known_of f w he hf read in
-    let programs = stands_within (program_headers (start_of f) f.segments) known.parts.programs in
-    let tables = tables_pass f file known.header (omega (arith, programs, length-program_headers (start_of f) f.segments)) (omega (arith, long)) in
-    let segments = segments_pass file (start_of f) f.segments known.header.phnum (omega (arith, w.size)) w.segments segments_fit w.apart
-    (stands_at (e_phoff file) (program_headers (start_of f) f.segments) (sym known.header.phoff) known.parts.programs) known.parts.segments in
+    let programs = stands_within (program_headers (parts_start f) f.segments) known.parts.programs in
+    let tables = tables_pass f file known.header (omega (arith, programs, length-program_headers (parts_start f) f.segments)) (omega (arith, long)) in
+    let segments = segments_pass file (parts_start f) f.segments known.header.phnum (omega (arith, w.size)) w.segments segments_fit w.apart
+    (stands_at (e_phoff file) (program_headers (parts_start f) f.segments) (sym known.header.phoff) known.parts.programs) known.parts.segments in
     let sections = sections_are f file known read in
     let symbols = symbols_read f file known (omega arith) w.symbols symbols_fit w.symbol_names in
     record {

@@ -1,7 +1,7 @@
 //! Writes ELF64 executables for RISC-V: segments, sections, symbols, and the tables that describe them (ELF gABI).
 //!
-//! What is written is the file of the definition `written`, byte for byte, and it is read back: by the rules of the reader
-//! it is a file, with the segments, sections and symbols that were given.
+//! The bytes are those of the definition `written`. By the reader's rules they are a file, with the given segments,
+//! sections and symbols.
 #![tactic(auto)]
 
 mod layout;

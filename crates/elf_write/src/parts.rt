@@ -5,7 +5,7 @@ ghost use Rattle.machine.specs.declared.limits.Limit.TheVariants as limit;
 ghost use Rattle.machine.specs.Limits.{limit_of};
 ghost use Rattle.tests.specs.Elf.Layout.{IsSymbol, names_bytes, table_names, headers_bytes, table_headers, table_header as header_of_table, written};
 ghost use Rattle.elf_write.specs.Widths.{FileFits};
-ghost use Rattle.elf_write.specs.Places.{ArePlaces, EndsWithin};
+ghost use Rattle.elf_write.specs.Places.{ArePlaces, PartsEndWithin};
 
 use crate::layout::{Places, TABLE_NAMES_SIZE};
 use crate::numbers::push_zeros;
@@ -30,7 +30,7 @@ fn push_table_names(out: &mut Vec<u8>) -> Result<(), AllocError>
 #[tactic(auto, using(crate::proofs::Sizes::laid_out))]
 fn push_table_headers(out: &mut Vec<u8>, file: &OutFile, places: &Places) -> Result<(), AllocError>
     requires places { ArePlaces file.now places.now }
-    requires size { EndsWithin (limit_of limit.CountedBytes) file.now }
+    requires size { PartsEndWithin (limit_of limit.CountedBytes) file.now }
     requires few_sections { length file.now.sections ≤ MAX_OUTPUT_SECTIONS }
     ensures { OnOk result (out.new.items ≡ out.old.items ++ headers_bytes (table_headers file.now)) }
 {
@@ -75,7 +75,7 @@ fn table_header(name: u32, kind: u32, from: u128, to: u128) -> SectionHeader
 /// Appends the parts of a file, one behind the other.
 pub fn push_parts(out: &mut Vec<u8>, file: &OutFile, places: &Places) -> Result<(), AllocError>
     requires places { ArePlaces file.now places.now }
-    requires size { EndsWithin (limit_of limit.CountedBytes) file.now }
+    requires size { PartsEndWithin (limit_of limit.CountedBytes) file.now }
     requires few_segments { length file.now.segments ≤ limit_of limit.OutputSegments }
     requires few_sections { length file.now.sections ≤ MAX_OUTPUT_SECTIONS }
     requires symbols { All IsSymbol file.now.symbols }

@@ -34,7 +34,8 @@ pub const NULL: SectionHeader = SectionHeader {
 pub fn push_header(out: &mut Vec<u8>, file: &OutFile, headers: u64) -> Result<(), AllocError>
     requires few_segments { length file.now.segments ≤ limit_of limit.OutputSegments }
     requires few_sections { length file.now.sections ≤ MAX_OUTPUT_SECTIONS }
-    ensures bytes { OnOk result (out.new.items ≡ out.old.items ++ fields_bytes (file_fields file.now.entry file.now.flags (length file.now.segments) headers (length file.now.sections))) }
+    ensures bytes { OnOk result (out.new.items ≡ out.old.items
+        ++ fields_bytes (file_fields file.now.entry file.now.flags (length file.now.segments) headers (length file.now.sections))) }
     ensures fits { (file.now.entry < 2 ^ 64) × (file.now.flags < 2 ^ 32) }
 {
     let (entry, flags) = (file.entry, file.flags);

@@ -2,7 +2,7 @@
 ghost use Rattle.std.specs.Prelude.{◌≡◌, ◌+◌, ◌^◌, ◌<◌, ◌≤◌, ◌++◌, OnOk, All, length, [], ◌∷◌};
 ghost use Rattle.machine.specs.declared.limits.Limit.TheVariants as limit;
 ghost use Rattle.machine.specs.Limits.{limit_of};
-ghost use Rattle.tests.specs.Elf.Layout.{names_bytes, symbol_names, symbols_bytes, entries_of, first_global as first_global_from, IsSymbol};
+ghost use Rattle.tests.specs.Elf.Layout.{names_bytes, symbol_names, symbols_bytes, symbol_entries, first_global as first_global_from, IsSymbol};
 ghost use Rattle.elf_write.specs.Widths.{SymbolFits};
 
 use crate::records::symbol_bytes;
@@ -36,7 +36,7 @@ pub fn names_size(symbols: &[Symbol]) -> u128
 pub fn push_symbols(out: &mut Vec<u8>, symbols: &[Symbol]) -> Result<(), AllocError>
     requires symbols { All IsSymbol symbols.now }
     requires size { length (names_bytes (symbol_names symbols.now)) ≤ limit_of limit.CountedBytes }
-    ensures bytes { OnOk result (out.new.items ≡ out.old.items ++ symbols_bytes (entries_of symbols.now)) }
+    ensures bytes { OnOk result (out.new.items ≡ out.old.items ++ symbols_bytes (symbol_entries symbols.now)) }
     ensures fits { OnOk result (All SymbolFits symbols.now) }
 {
     out.extend_from_slice(&symbol_bytes(NULL))?;

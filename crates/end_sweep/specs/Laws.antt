@@ -27,8 +27,10 @@ with_sweep spans far = record { spans = spans; round = 0; far = far; sweep = tru
 
 pub lockstep_sweep : (spans : List (ℕ × ℕ)) (i : Ins) → class_of i.kind ≡ class.End → Lockstep any [] (swept_end spans i)
 lockstep_sweep spans i k = record {
-  locks = λ far s. subst (λ c. LockItems far (leave_as (with_sweep spans far) c i 0)) k (leave_items (with_sweep spans far) (plain_mirrors_fit far) i 0 (end_ends k));
-  lands = λ far s. subst (λ c. LandItems far (leave_as (with_sweep spans far) c i 0)) k (land_leave (with_sweep spans far) (plain_mirrors_fit far) i 0 (end_ends k));
+  locks = λ far s. subst (λ c. LockItems far (leave_as (with_sweep spans far) c i 0)) k
+      (leave_items (with_sweep spans far) (plain_mirrors_fit far) i 0 (end_ends k));
+  lands = λ far s. subst (λ c. LandItems far (leave_as (with_sweep spans far) c i 0)) k
+      (land_leave (with_sweep spans far) (plain_mirrors_fit far) i 0 (end_ends k));
 }
 
 -- ---- Honest
@@ -40,7 +42,8 @@ module _ (far : Bool) where
   -- the words of one lap
   lap :
       (e : ℕ)
-      → HonestItems far (Plain first_load ∷ Plain mirror_place ∷ Plain second_load ∷ Plain word_check ∷ Plain brk ∷ Plain (ins Addi CURSOR CURSOR 0 (pos 8)) ∷ Constant TEMPORARY e ∷ Plain i_back ∷ [])
+      → HonestItems far (Plain first_load ∷ Plain mirror_place ∷ Plain second_load ∷ Plain word_check
+      ∷ Plain brk ∷ Plain (ins Addi CURSOR CURSOR 0 (pos 8)) ∷ Constant TEMPORARY e ∷ Plain i_back ∷ [])
   lap e c en a near has calm ent =
       let up = ins Auipc TEMPORARY 0 0 (upper_part (distance_between (a + 4 + 4 + 4 + 4 + 4 + 4) e)) in
       let lo = ins Addi TEMPORARY TEMPORARY 0 (lower_part (distance_between (a + 4 + 4 + 4 + 4 + 4 + 4) e)) in
@@ -59,15 +62,33 @@ module _ (far : Bool) where
       let n28 = other_word c (a + 4 + 4 + 4 + 4 + 4 + 4 + 4) lo class.Compute has.1.1.1.1.1.1.1.0 refl (λ e. absurd (cc)) in
       let n32 = other_word c (a + 4 + 4 + 4 + 4 + 4 + 4 + 4 + 4) i_back class.Branch has.1.1.1.1.1.1.1.1.0 refl (λ e. absurd (cc)) in
       let n36 : NoBreak c (a + 4 + 4 + 4 + 4 + 4 + 4 + 4 + 4 + 4) = subst (NoBreak c) last calm in
-      let check = words a refl p (record { first = has.0; mirror = has.1.0; second = ap c (sym e8) ∙ has.1.1.0; check = ap c (sym p) ∙ has.1.1.1.0; brk = ap c (sym e16) ∙ has.1.1.1.1.0 }) in
-      record { each = (n4, (n8, (n12, ((subst (NoBreak c) over n20, λ b. check), (tt, (n24, (n28, (n32, ((subst (NoBreak c) back n0, λ b. absurd (n36 b)), tt))))))))); front = n0 }
+      let check = words a refl p (record {
+        first = has.0;
+        mirror = has.1.0;
+        second = ap c (sym e8) ∙ has.1.1.0;
+        check = ap c (sym p) ∙ has.1.1.1.0;
+        brk = ap c (sym e16) ∙ has.1.1.1.1.0;
+      }) in
+      record {
+        each = (n4, (n8, (n12, ((subst (NoBreak c) over n20, λ b. check), (tt, (n24, (n28, (n32, ((subst (NoBreak c) back n0, λ b. absurd (n36 b)), tt)))))))));
+        front = n0;
+      }
 
   range_honest : (r : ℕ × ℕ) → HonestItems far (sweep_range r)
-  range_honest r = honest_items_then far (Constant CURSOR r.0 ∷ []) (Plain first_load ∷ Plain mirror_place ∷ Plain second_load ∷ Plain word_check ∷ Plain brk ∷ Plain (ins Addi CURSOR CURSOR 0 (pos 8)) ∷ Constant TEMPORARY r.1 ∷ Plain i_back ∷ []) (honest_constant far 15 r.0) (lap r.1)
+  range_honest r =
+      honest_items_then far (Constant CURSOR r.0 ∷ [])
+      (Plain first_load ∷ Plain mirror_place ∷ Plain second_load ∷ Plain word_check ∷ Plain brk ∷ Plain (ins Addi CURSOR CURSOR 0 (pos 8))
+      ∷ Constant TEMPORARY r.1 ∷ Plain i_back ∷ [])
+      (honest_constant far 15 r.0) (lap r.1)
 
   sweep_honest : (rs : List (ℕ × ℕ)) → HonestItems far (sweep rs)
   sweep_honest [] = honest_items_none far
   sweep_honest (r ∷ rs) = honest_items_then far (sweep_range r) (sweep rs) (range_honest r) (sweep_honest rs)
 
 pub honest_sweep : (spans : List (ℕ × ℕ)) (i : Ins) → class_of i.kind ≡ class.End → Honest any (swept_end spans i)
-honest_sweep spans i k = record { honest = λ far s. honest_items_then far (sweep spans ++ compare) (Plain i ∷ []) (honest_items_then far (sweep spans) compare (sweep_honest far spans) (honest_compare.honest far tt)) (honest_end far i class.End k tt) }
+honest_sweep spans i k = record {
+  honest = λ far s.
+      honest_items_then far (sweep spans ++ compare) (Plain i ∷ [])
+      (honest_items_then far (sweep spans) compare (sweep_honest far spans) (honest_compare.honest far tt))
+      (honest_end far i class.End k tt);
+}

@@ -11,23 +11,23 @@ use Rattle.qed_model.specs.Promise.Kept.{is_trapped, NotTrapped, IsSteady}
 use Rattle.machine.proofs.Lemmas.{each_fails, step-class, run-last}
 use Rattle.qed_model.proofs.Lemmas.{run_unchanged}
 use Rattle.weave_core.proofs.Lemmas.{not_trapped_le}
-use Rattle.fault_inject.specs.Astray.{is_jalr, is_astray, jump_of, first_jump, first_astray, instruction_of, known_at, goes_on, changed_run}
+use Rattle.fault_inject.specs.Astray.{is_jalr, is_astray, jump_of, first_jump, first_astray, instruction_of, known_at, does_step, changed_run}
 
 -- ---- indirect jumps
 -- a jump that does not trap goes on
-either : (b : Bool) (s t : State) → s.outcome ≡ Going → is_trapped t.outcome ≡ true → NotTrapped (cond b s t) → goes_on (cond b s t).outcome ≡ true
-either true s t going stop calm = ap goes_on going
+either : (b : Bool) (s t : State) → s.outcome ≡ Going → is_trapped t.outcome ≡ true → NotTrapped (cond b s t) → does_step (cond b s t).outcome ≡ true
+either true s t going stop calm = ap does_step going
 either false s t going stop calm = absurd (cc)
 
-jumped_on : (regs : List ℕ) (target : ℕ) (s : State) → s.outcome ≡ Going → NotTrapped (jumped regs target s) → goes_on (jumped regs target s).outcome ≡ true
+jumped_on : (regs : List ℕ) (target : ℕ) (s : State) → s.outcome ≡ Going → NotTrapped (jumped regs target s) → does_step (jumped regs target s).outcome ≡ true
 unfolding jumped
 jumped_on regs target s going calm = either (target % 4 == 0) (moved regs target s) (trapped (cause.Target target) s) going refl calm
 
-jalr_on : (s : State) (i : Ins) → s.outcome ≡ Going → next s ≡ Known i → class_of i.kind ≡ class.JumpReg → NotTrapped (step s) → goes_on (step s).outcome ≡ true
+jalr_on : (s : State) (i : Ins) → s.outcome ≡ Going → next s ≡ Known i → class_of i.kind ≡ class.JumpReg → NotTrapped (step s) → does_step (step s).outcome ≡ true
 unfolding execute
 jalr_on s i going at jumps calm =
     let is = step-class s i class.JumpReg going at jumps in
-    subst (λ t. goes_on t.outcome ≡ true) (sym is) (jumped_on _ _ s going (subst NotTrapped is calm))
+    subst (λ t. does_step t.outcome ≡ true) (sym is) (jumped_on _ _ s going (subst NotTrapped is calm))
 
 -- a jump that is not astray has a reached target
 third : (a b c : Bool) → a ≡ true → b ≡ true → (a && (b && not c)) ≡ false → c ≡ true
@@ -39,7 +39,7 @@ third false b c p q h = absurd (cc)
 leads_on : (r : ℕ → Bool) (s : State) (i : Ins) → is_astray r s ≡ false → s.outcome ≡ Going → next s ≡ Known i → class_of i.kind ≡ class.JumpReg → NotTrapped (step s) → r (step s).pc ≡ true
 unfolding is_astray
 leads_on r s i never going at jumps calm =
-    third (is_jalr (known_at s s.pc)) (goes_on (step s).outcome) (r (step s).pc) (ap (λ f. is_jalr (instruction_of f)) at ∙ ap is_indirect jumps) (jalr_on s i going at jumps calm) never
+    third (is_jalr (known_at s s.pc)) (does_step (step s).outcome) (r (step s).pc) (ap (λ f. is_jalr (instruction_of f)) at ∙ ap is_indirect jumps) (jalr_on s i going at jumps calm) never
 
 -- ---- a run
 none_mapped : {A : Type 0} (g : ℕ → A) (o : Option ℕ) → option_map g o ≡ None → o ≡ None

@@ -4,19 +4,19 @@ use Rattle.std.proofs.Math.Bool.{and-false}
 use Rattle.std.proofs.lemmas.List.{take-append-drop}
 use Rattle.std.specs.Prelude.{not}
 use Rattle.std.specs.Option.{option_map, option_or}
-use Rattle.machine.specs.Below.{first, first_from}
+use Rattle.machine.specs.Below.{first_below, first_passing}
 use Rattle.qed_model.specs.declared.change.Change.{Change}
 use Rattle.machine.specs.Step.{State, step}
 use Rattle.machine.specs.Progress.{Progress, advanced, progress}
 use Rattle.machine.proofs.Lemmas.{first_none}
 use Rattle.rv_step.proofs.Running.{progress_last, progress_more, stays_long, stays_step}
-use Rattle.fault_inject.specs.Astray.{is_jalr, is_astray, jump_of, astray_of, first_jump, first_astray, known_at, goes_on, changed_run}
+use Rattle.fault_inject.specs.Astray.{is_jalr, is_astray, jump_of, astray_of, first_jump, first_astray, known_at, does_step, changed_run}
 use Rattle.fault_inject.proofs.Changing.{AllFrom, Reached, changed_progress, later_run, plain}
 
 -- ---- the first of some states
 -- the first of the n states from the k-th on
 abbrev from : (ℕ → Bool) → (ℕ → State) → ℕ → ℕ → Option (ℕ × ℕ)
-from r f k n = option_map (λ j. jump_of (f j)) (first_from (λ j. is_astray r (f j)) k n)
+from r f k n = option_map (λ j. jump_of (f j)) (first_passing (λ j. is_astray r (f j)) k n)
 
 or_first : {A : Type 0} (g : ℕ → A) (b : Bool) (k : ℕ) (o : Option ℕ) → option_map g (cond b (Some k) o) ≡ option_or (cond b (Some (g k)) None) (option_map g o)
 or_first g true k o = refl
@@ -32,7 +32,7 @@ or_assoc (Some a) y z = refl
 
 -- the first is the k-th, or one behind it
 from_next : (r : ℕ → Bool) (f : ℕ → State) (k n : ℕ) → from r f k (suc n) ≡ option_or (astray_of r (f k)) (from r f (k + 1) n)
-from_next r f k n = or_first (λ j. jump_of (f j)) (is_astray r (f k)) k (first_from (λ j. is_astray r (f j)) (k + 1) n)
+from_next r f k n = or_first (λ j. jump_of (f j)) (is_astray r (f k)) k (first_passing (λ j. is_astray r (f j)) (k + 1) n)
 
 from_same : (r : ℕ → Bool) (f g : ℕ → State) (k n : ℕ) → ((j : ℕ) → k ≤ j → j < k + n → f j ≡ g j) → from r f k n ≡ from r g k n
 from_same r f g k zero same = refl
@@ -61,23 +61,23 @@ from_later r f a k (suc n) =
 
 -- the first, in equal states
 first_same : (r : ℕ → Bool) (f g : ℕ → State) (n : ℕ) → ((j : ℕ) → j < n → f j ≡ g j) → first_jump r f n ≡ first_jump r g n
-unfolding first first_jump
+unfolding first_below first_jump
 first_same r f g n same = from_same r f g 0 n (λ j le lt. same j (omega (arith, lt)))
 
 -- the first, in a states and then in b more
 first_more : (r : ℕ → Bool) (f : ℕ → State) (a b : ℕ) → first_jump r f (a + b) ≡ option_or (first_jump r f a) (first_jump r (λ j. f (a + j)) b)
-unfolding first first_jump
+unfolding first_below first_jump
 first_more r f a b =
     let front : 0 + a ≡ a + 0 = omega arith in
     from_more r f 0 a b ∙ ap (λ i. option_or (from r f 0 a) (from r f i b)) front ∙ ap (option_or (from r f 0 a)) (from_later r f a 0 b)
 
 -- the first, in no state and in one more
 pub in_none : (r : ℕ → Bool) (f : ℕ → State) → first_jump r f 0 ≡ None
-unfolding first first_jump
+unfolding first_below first_jump
 in_none r f = refl
 
 in_one : (r : ℕ → Bool) (f : ℕ → State) → first_jump r f 1 ≡ astray_of r (f 0)
-unfolding first first_jump
+unfolding first_below first_jump
 in_one r f = from_next r f 0 0 ∙ or_none (astray_of r (f 0))
 
 in_next : (r : ℕ → Bool) (f : ℕ → State) (n : ℕ) → option_or (first_jump r f n) (astray_of r (f n)) ≡ first_jump r f (n + 1)
@@ -99,24 +99,24 @@ step_next r p q n found more at so_far here =
     ap (λ o. option_or o more) so_far ∙ ap (option_or (first_jump r (states p) n)) (here ∙ ap (λ x. astray_of r x.state) at) ∙ in_next r (states p) n
 
 -- a stopped state does not jump
-never_stopped : (r : ℕ → Bool) (s : State) → goes_on s.outcome ≡ false → is_astray r s ≡ false
+never_stopped : (r : ℕ → Bool) (s : State) → does_step s.outcome ≡ false → is_astray r s ≡ false
 unfolding is_astray
-never_stopped r s h = ap (λ b. is_jalr (known_at s s.pc) && (b && not (r (step s).pc))) (ap (λ t. goes_on t.outcome) (stays_step s h) ∙ h) ∙ and-false (is_jalr (known_at s s.pc))
+never_stopped r s h = ap (λ b. is_jalr (known_at s s.pc) && (b && not (r (step s).pc))) (ap (λ t. does_step t.outcome) (stays_step s h) ∙ h) ∙ and-false (is_jalr (known_at s s.pc))
 
 none_of : (r : ℕ → Bool) (f : ℕ → State) (n : ℕ) → ((j : ℕ) → j < n → is_astray r (f j) ≡ false) → first_jump r f n ≡ None
 unfolding first_jump
 none_of r f n never = ap (option_map (λ j. jump_of (f j))) (first_none n (λ j. is_astray r (f j)) never)
 
 -- more steps of a machine that has stopped change nothing
-stays_on : (p q : Progress) (a j : ℕ) → q ≡ progress p a → goes_on q.state.outcome ≡ false → progress p (a + j) ≡ q
+stays_on : (p q : Progress) (a j : ℕ) → q ≡ progress p a → does_step q.state.outcome ≡ false → progress p (a + j) ≡ q
 stays_on p q a j at stop = progress_more p a j ∙ ap (λ x. progress x j) (sym at) ∙ stays_long q j stop
 
-pub stopped_all : (p q : Progress) (a n : ℕ) → a ≤ n → q ≡ progress p a → goes_on q.state.outcome ≡ false → q ≡ progress p n
+pub stopped_all : (p q : Progress) (a n : ℕ) → a ≤ n → q ≡ progress p a → does_step q.state.outcome ≡ false → q ≡ progress p n
 stopped_all p q a n h at stop = let sum : a + (n - a) ≡ n = omega arith in sym (stays_on p q a (n - a) at stop) ∙ ap (progress p) sum
 
 -- more steps of a stopped machine find no more
 pub stopped_first :
-    (r : ℕ → Bool) (p q : Progress) (a n : ℕ) (found : Option (ℕ × ℕ)) → a ≤ n → q ≡ progress p a → goes_on q.state.outcome ≡ false → found ≡ first_jump r (states p) a → found ≡ first_jump r (states p) n
+    (r : ℕ → Bool) (p q : Progress) (a n : ℕ) (found : Option (ℕ × ℕ)) → a ≤ n → q ≡ progress p a → does_step q.state.outcome ≡ false → found ≡ first_jump r (states p) a → found ≡ first_jump r (states p) n
 stopped_first r p q a n found h at stop so_far =
     let sum : a + (n - a) ≡ n = omega arith in
     let none = none_of r (λ j. states p (a + j)) (n - a) (λ j lt. ap (λ x. is_astray r x.state) (stays_on p q a j at stop) ∙ never_stopped r q.state stop) in

@@ -3,10 +3,10 @@ use Rattle.std.specs.Prelude.{ℕ, Bool, false, ◌&&◌, not, List, Option, Non
 use Rattle.std.specs.Option.{option_map}
 use Rattle.qed_model.specs.declared.change.Change.{Change}
 use Rattle.tests.specs.Admission.Leaders.{is_indirect}
-use Rattle.machine.specs.Below.{first}
+use Rattle.machine.specs.Below.{first_below}
 use Rattle.machine.specs.Step.{State, step, Ins, class_of}
 pub use Rattle.qed_model.specs.Promise.Changed.{changed_run}
-pub use Rattle.rv_step.specs.Known.{known_at, goes_on, instruction_of}
+pub use Rattle.rv_step.specs.Known.{known_at, does_step, instruction_of}
 
 -- the instruction, if there is one, is a JALR
 abbrev pub is_jalr : Option Ins → Bool
@@ -16,7 +16,7 @@ is_jalr (Some i) = is_indirect (class_of i.kind)
 -- the next step is a JALR, and the state goes on behind it, at an address that is not reached; false if the state has
 -- stopped, or if the target is not a multiple of 4
 unfoldable pub is_astray : (ℕ → Bool) → State → Bool
-is_astray reached s = is_jalr (known_at s s.pc) && (goes_on (step s).outcome && not (reached (step s).pc))
+is_astray reached s = is_jalr (known_at s s.pc) && (does_step (step s).outcome && not (reached (step s).pc))
 
 -- the address of the next instruction, and the address that its step leads to
 abbrev pub jump_of : State → ℕ × ℕ
@@ -28,7 +28,7 @@ astray_of reached s = if is_astray reached s then Some (jump_of s) else None
 
 -- the first jump that leads astray, among those of n states
 unfoldable pub first_jump : (ℕ → Bool) → (ℕ → State) → ℕ → Option (ℕ × ℕ)
-first_jump reached states n = option_map (λ k. jump_of (states k)) (first n (λ k. is_astray reached (states k)))
+first_jump reached states n = option_map (λ k. jump_of (states k)) (first_below n (λ k. is_astray reached (states k)))
 
 -- the first jump astray in n steps with changes
 abbrev pub first_astray : (ℕ → Bool) → State → List Change → ℕ → Option (ℕ × ℕ)

@@ -4,7 +4,8 @@ ghost use Rattle.rv_isa.specs.Kind.{class_of};
 ghost use Rattle.machine.specs.Step.{Fetched, Known};
 ghost use Rattle.rv_step.specs.Known.{instruction_of};
 ghost use Rattle.rv_isa.specs.Operation.{pair};
-ghost use Rattle.qed_model.specs.Promise.Closed.{is_closed, uses as uses_register, uses_as, guards_other, guard_bytes, is_on_pairs as on_pairs, is_checked, IsOpen};
+ghost use Rattle.qed_model.specs.Promise.Closed.{is_closed, uses as uses_register, uses_as, guards_other, guard_bytes, is_on_pairs as on_pairs, is_checked};
+ghost use Rattle.qed_model.specs.Promise.Closed.{IsOpen};
 ghost use Rattle.fault_inject.specs.Closed.{is_closed_place};
 
 use qed_model::Place;

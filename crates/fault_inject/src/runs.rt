@@ -3,7 +3,7 @@ ghost use Rattle.std.specs.Prelude.{◌≡◌, ◌-◌, ◌≤◌, IfOk, IfErr};
 ghost use Rattle.machine.specs.Progress.{progress as progress_of};
 ghost use Rattle.qed_model.specs.Promise.Changed.{Ordered, changed, changed_run};
 ghost use Rattle.fault_inject.specs.Counted.{changed_steps, IsPartOf};
-ghost use Rattle.rv_step.specs.Known.{goes_on, IsPart};
+ghost use Rattle.rv_step.specs.Known.{does_step, IsPart};
 
 use crate::progress::Progress;
 use qed_model::{Change, Outcome};
@@ -16,7 +16,7 @@ const TOLD_STEPS: u64 = 1 << 24;
 
 /// Whether the machine has not stopped.
 pub(crate) fn is_going(machine: &Machine) -> bool
-    ensures { result ≡ goes_on machine.now.state.outcome }
+    ensures { result ≡ does_step machine.now.state.outcome }
 {
     matches!(machine.outcome(), Outcome::Going)
 }

@@ -13,11 +13,11 @@ use Rattle.machine.proofs.Lemmas.{any_passing, passing}
 use Rattle.tests.specs.declared.test.CodeWord.{CodeWord}
 use Rattle.tests.specs.declared.test.Test.{Test}
 use Rattle.machine.specs.Step.{imm}
-use Rattle.tests.specs.Admission.Reached.{leads, once, is_by_table, adds_to}
+use Rattle.tests.specs.Admission.Reached.{leads, one_pass, is_by_table, adds_to}
 use Rattle.flow_recovery.specs.declared.found.Code.{Code}
 use Rattle.flow_recovery.specs.declared.found.Found.{Found}
-use Rattle.flow_recovery.specs.Sets.{lists, Gains, stands}
-use Rattle.flow_recovery.specs.Found.{is_recent, IsKept, covers, Covers, is_offset, sum_leads_on, sums_lead_on}
+use Rattle.flow_recovery.specs.Sets.{lists, Gains, has_word_at}
+use Rattle.flow_recovery.specs.Found.{is_recent, IsAdded, covers, CoversFound, is_offset, sum_leads_on, sums_lead_on}
 use Rattle.flow_recovery.proofs.OrderLaws.{listed, among_listed}
 
 -- ---- tests
@@ -39,34 +39,34 @@ or_swap false false true = refl
 or_swap false false false = refl
 
 -- ---- one step behind another
-pub covers_then : (c : Code) (s t u : Found) (p q : ℕ → Bool) → Covers c s t p → Covers c t u q → Covers c s u (λ a. p a || q a)
+pub covers_then : (c : Code) (s t u : Found) (p q : ℕ → Bool) → CoversFound c s t p → CoversFound c t u q → CoversFound c s u (λ a. p a || q a)
 covers_then c s t u p q h g = record {
   kept = λ k. g.kept (h.kept k);
   each = λ k a at. g.each (h.kept k) a at ∙ ap (λ b. b || q a) (h.each k a at) ∙ or_assoc (covers c s a) (p a) (q a);
 }
 
-pub covers_none : (c : Code) (s : Found) → Covers c s s (λ a. false)
+pub covers_none : (c : Code) (s : Found) → CoversFound c s s (λ a. false)
 covers_none c s = record { kept = λ k. k; each = λ k a at. sym (or_false (covers c s a)) }
 
 -- one step, with equal tests
-pub covers_as : (c : Code) (s t : Found) (p q : ℕ → Bool) → ((a : ℕ) → p a ≡ q a) → Covers c s t p → Covers c s t q
+pub covers_as : (c : Code) (s t : Found) (p q : ℕ → Bool) → ((a : ℕ) → p a ≡ q a) → CoversFound c s t p → CoversFound c s t q
 covers_as c s t p q same h = record { kept = h.kept; each = λ k a at. h.each k a at ∙ ap (λ b. covers c s a || b) (same a) }
 
 -- one more element of a list, by its place
-pub covers_next : {X : Type 0} (c : Code) (p : X → ℕ → Bool) (xs : List X) (k : ℕ) (d : X) (s t u : Found) → k < length xs → Covers c s t (λ a. list_any (λ y. p y a) (take k xs)) → Covers c t u (p (get_or xs k d)) → Covers c s u (λ a. list_any (λ y. p y a) (take (k + 1) xs))
+pub covers_next : {X : Type 0} (c : Code) (p : X → ℕ → Bool) (xs : List X) (k : ℕ) (d : X) (s t u : Found) → k < length xs → CoversFound c s t (λ a. list_any (λ y. p y a) (take k xs)) → CoversFound c t u (p (get_or xs k d)) → CoversFound c s u (λ a. list_any (λ y. p y a) (take (k + 1) xs))
 covers_next c p xs k d s t u lt h g =
     covers_as c s u (λ a. list_any (λ y. p y a) (take k xs) || p (get_or xs k d) a) (λ a. list_any (λ y. p y a) (take (k + 1) xs))
     (λ a. sym (list_any_more (λ y. p y a) xs k d lt))
     (covers_then c s t u (λ b. list_any (λ y. p y b) (take k xs)) (p (get_or xs k d)) h g)
 
 -- one more element of a list, by itself
-pub covers_more : {X : Type 0} (c : Code) (p : X → ℕ → Bool) (xs : List X) (k : ℕ) (x : X) (s t u : Found) → k < length xs → x ≡ get_or xs k x → Covers c s t (λ a. list_any (λ y. p y a) (take k xs)) → Covers c t u (p x) → Covers c s u (λ a. list_any (λ y. p y a) (take (k + 1) xs))
-covers_more c p xs k x s t u lt is h g = covers_next c p xs k x s t u lt h (subst (λ y. Covers c t u (p y)) is g)
+pub covers_more : {X : Type 0} (c : Code) (p : X → ℕ → Bool) (xs : List X) (k : ℕ) (x : X) (s t u : Found) → k < length xs → x ≡ get_or xs k x → CoversFound c s t (λ a. list_any (λ y. p y a) (take k xs)) → CoversFound c t u (p x) → CoversFound c s u (λ a. list_any (λ y. p y a) (take (k + 1) xs))
+covers_more c p xs k x s t u lt is h g = covers_next c p xs k x s t u lt h (subst (λ y. CoversFound c t u (p y)) is g)
 
 -- behind a step, all elements of a list
 pub covers_all :
     {X : Type 0} (c : Code) (p : X → ℕ → Bool) (q : ℕ → Bool) (xs : List X) (k : ℕ) (s t u : Found)
-    → length xs ≤ k → Covers c s t q → Covers c t u (λ a. list_any (λ y. p y a) (take k xs)) → Covers c s u (λ a. q a || list_any (λ y. p y a) xs)
+    → length xs ≤ k → CoversFound c s t q → CoversFound c t u (λ a. list_any (λ y. p y a) (take k xs)) → CoversFound c s u (λ a. q a || list_any (λ y. p y a) xs)
 covers_all c p q xs k s t u all h g =
     covers_as c s u (λ a. q a || list_any (λ y. p y a) (take k xs)) (λ a. q a || list_any (λ y. p y a) xs)
     (λ a. ap (λ ys. q a || list_any (λ y. p y a) ys) (take_all k xs all))
@@ -74,12 +74,12 @@ covers_all c p q xs k s t u all h g =
 
 -- ---- a constant
 -- a constant that is remembered
-pub recent_covers : (c : Code) (f : Found) (u : ℕ) → is_recent f.recent.items u ≡ true → Covers c f f (leads c.test.now u)
+pub recent_covers : (c : Code) (f : Found) (u : ℕ) → is_recent f.recent.items u ≡ true → CoversFound c f f (leads c.test.now u)
 recent_covers c f u r = record { kept = λ k. k; each = λ k a at. by k a at (leads c.test.now u a) refl } where
-  by : IsKept c f → (a : ℕ) → has_address c.places.now a ≡ true → (b : Bool) → leads c.test.now u a ≡ b → covers c f a ≡ (covers c f a || b)
+  by : IsAdded c f → (a : ℕ) → has_address c.places.now a ≡ true → (b : Bool) → leads c.test.now u a ≡ b → covers c f a ≡ (covers c f a || b)
   by k a at false e = sym (or_false (covers c f a))
   by k a at true e =
-      let is : covers c f a ≡ true = or_left (has_address f.reached a) (list_any (λ v. once c.test.now c.test.now.code 3 v a) f.pointers.items) (k u a r at e) in
+      let is : covers c f a ≡ true = or_left (has_address f.reached a) (list_any (λ v. one_pass c.test.now c.test.now.code 3 v a) f.pointers.items) (k u a r at e) in
       is ∙ sym (or_right (covers c f a) true refl)
 
 -- one place remembers another constant
@@ -116,7 +116,7 @@ module _ (c : Code) (old new : Found) (value : ℕ) (middle : BTreeSet ℕ) (sam
       ∙ or_assoc (has_address old.reached a) (has_address c.places.now value && (value == a)) by_table
       ∙ ap (λ b. has_address old.reached a || (b || by_table)) (by_place a at (value == a) refl)
 
-  pub constant_covers : Covers c old new (leads c.test.now value)
+  pub constant_covers : CoversFound c old new (leads c.test.now value)
   constant_covers = record {
     kept = λ k u a r at l.
         added a at
@@ -127,10 +127,10 @@ module _ (c : Code) (old new : Found) (value : ℕ) (middle : BTreeSet ℕ) (sam
     each = λ k a at.
         ap (λ b. b || far new a) (added a at)
         ∙ or_swap (has_address old.reached a) (leads c.test.now value a) (far new a)
-        ∙ ap (λ ps. (has_address old.reached a || list_any (λ v. once c.test.now c.test.now.code 3 v a) ps.items) || leads c.test.now value a) same;
+        ∙ ap (λ ps. (has_address old.reached a || list_any (λ v. one_pass c.test.now c.test.now.code 3 v a) ps.items) || leads c.test.now value a) same;
   } where
     far : Found → ℕ → Bool
-    far f a = list_any (λ v. once c.test.now c.test.now.code 3 v a) f.pointers.items
+    far f a = list_any (λ v. one_pass c.test.now c.test.now.code 3 v a) f.pointers.items
 
 -- ---- lists of numbers
 -- a list that has the numbers of another list's elements
@@ -156,19 +156,19 @@ same_any xs ys same p = told_any (λ y. true) (λ y. y) xs ys same p
 
 -- ---- the global pointer
 -- what one value leads to, by the offsets
-value_leads : (t : Test) (offsets : List ℕ) → ((a : ℕ) → lists offsets a ≡ list_any (λ d. is_offset d a) t.code) → (v a : ℕ) → sums_lead_on t offsets a v ≡ once t t.code 3 v a
-unfolding once
+value_leads : (t : Test) (offsets : List ℕ) → ((a : ℕ) → lists offsets a ≡ list_any (λ d. is_offset d a) t.code) → (v a : ℕ) → sums_lead_on t offsets a v ≡ one_pass t t.code 3 v a
+unfolding one_pass
 value_leads t offsets told v a = ap (λ b. leads t v a || b) (told_any (λ (d : CodeWord). adds_to 3 d.ins) (λ d. imm d.ins) offsets t.code told (sum_leads_on t a v))
 
 pub summed_is :
     (c : Code) (f all new : Found) (vs os values offsets : List ℕ) (words : List CodeWord) → vs ≡ values → os ≡ offsets → words ≡ c.test.now.code → all.reached ≡ f.reached → all.recent ≡ f.recent → all.pointers.items ≡ [] → new.pointers ≡ all.pointers
     → ((a : ℕ) → lists values a ≡ lists f.pointers.items a) → ((a : ℕ) → lists offsets a ≡ list_any (λ d. is_offset d a) words)
-    → Covers c all new (λ a. list_any (sums_lead_on c.test.now os a) vs) → IsKept c f → (a : ℕ) → has_address c.places.now a ≡ true → has_address new.reached a ≡ covers c f a
+    → CoversFound c all new (λ a. list_any (sums_lead_on c.test.now os a) vs) → IsAdded c f → (a : ℕ) → has_address c.places.now a ≡ true → has_address new.reached a ≡ covers c f a
 summed_is c f all new vs os values offsets words by_values by_offsets by_words reached recent none same values_are offsets_are covered k a at =
     let t = c.test.now in
     let told : (b : ℕ) → lists offsets b ≡ list_any (λ d. is_offset d b) t.code = λ b. offsets_are b ∙ ap (λ (ws : List CodeWord). list_any (λ d. is_offset d b) ws) by_words in
-    let far : List ℕ → Bool = λ vs. list_any (λ v. once t t.code 3 v a) vs in
-    let kept : IsKept c all = λ u b r stands l. ap (λ s. has_address s b) reached ∙ k u b (ap (λ xs. is_recent xs.items u) (sym recent) ∙ r) stands l in
+    let far : List ℕ → Bool = λ vs. list_any (λ v. one_pass t t.code 3 v a) vs in
+    let kept : IsAdded c all = λ u b r has_word_at l. ap (λ s. has_address s b) reached ∙ k u b (ap (λ xs. is_recent xs.items u) (sym recent) ∙ r) has_word_at l in
     sym (or_false (has_address new.reached a))
     ∙ ap (λ xs. has_address new.reached a || far xs) (sym none)
     ∙ ap (λ xs. has_address new.reached a || far xs.items) (sym same)
@@ -178,17 +178,17 @@ summed_is c f all new vs os values offsets words by_values by_offsets by_words r
     ∙ ap (λ s. has_address s a || list_any (sums_lead_on t os a) vs) reached
     ∙ (λ i. has_address f.reached a || list_any (sums_lead_on t (by_offsets i) a) (by_values i))
     ∙ (λ i. has_address f.reached a || list_any (λ v. value_leads t offsets told v a i) values)
-    ∙ ap (λ b. has_address f.reached a || b) (same_any values f.pointers.items values_are (λ v. once t t.code 3 v a))
+    ∙ ap (λ b. has_address f.reached a || b) (same_any values f.pointers.items values_are (λ v. one_pass t t.code 3 v a))
 
 -- ---- starting from nothing
 pub made_is :
     (c : Code) (f found : Found) (set : BTreeSet ℕ) (test : ℕ → Bool) → ((a : ℕ) → has_address f.reached a ≡ false) → f.pointers.items ≡ [] → ((u : ℕ) → is_recent f.recent.items u ≡ false)
-    → Covers c f found test → (IsKept c found → (a : ℕ) → has_address c.places.now a ≡ true → has_address set a ≡ covers c found a)
-    → ((a : ℕ) → has_address c.places.now a ≡ stands c.test.now.code a) → (a : ℕ) → stands c.test.now.code a ≡ true → has_address set a ≡ test a
+    → CoversFound c f found test → (IsAdded c found → (a : ℕ) → has_address c.places.now a ≡ true → has_address set a ≡ covers c found a)
+    → ((a : ℕ) → has_address c.places.now a ≡ has_word_at c.test.now.code a) → (a : ℕ) → has_word_at c.test.now.code a ≡ true → has_address set a ≡ test a
 made_is c f found set test empty none fresh covered summed places a at =
     let here = places a ∙ at in
-    let kept : IsKept c f = λ u b r stood l. absurd (false≢true (sym (fresh u) ∙ r)) in
+    let kept : IsAdded c f = λ u b r stood l. absurd (false≢true (sym (fresh u) ∙ r)) in
     summed (covered.kept kept) a here
     ∙ covered.each kept a here
-    ∙ ap (λ b. (b || list_any (λ v. once c.test.now c.test.now.code 3 v a) f.pointers.items) || test a) (empty a)
-    ∙ ap (λ vs. list_any (λ v. once c.test.now c.test.now.code 3 v a) vs || test a) none
+    ∙ ap (λ b. (b || list_any (λ v. one_pass c.test.now c.test.now.code 3 v a) f.pointers.items) || test a) (empty a)
+    ∙ ap (λ vs. list_any (λ v. one_pass c.test.now c.test.now.code 3 v a) vs || test a) none

@@ -24,9 +24,9 @@ use Rattle.tests.specs.Admission.Test.{AreCodeWords, IsTestOf}
 use Rattle.machine.proofs.Lemmas.{among_of, contains_of, passing, any_passing, among-filter, among-kept}
 use Rattle.machine.specs.Members.{Among}
 use Rattle.qed_model.specs.Weave.Blocks.{IsEntered, Options}
-use Rattle.flow_recovery.specs.Sets.{lists, stands, Adds, AddsAt}
+use Rattle.flow_recovery.specs.Sets.{lists, has_word_at, Adds, AddsAt}
 use Rattle.qed_model.proofs.Lemmas.{reached_by}
-use Rattle.flow_recovery.specs.Words.{leads_to, ends_before, begins_by, is_begun, is_chosen, is_entered, is_even, of_code}
+use Rattle.flow_recovery.specs.Words.{targets, ends_before, begins_by, is_begun, is_chosen, is_entered, is_even, of_code}
 use Rattle.flow_recovery.specs.Leaders.{AreLeaders}
 use Rattle.flow_recovery.proofs.SetLaws.{adds_first, adds_then, at_first}
 use Rattle.flow_recovery.proofs.CodeLaws.{code_word, standing_word, stands_word}
@@ -93,7 +93,7 @@ module _ (f : ElfFile) (o : Options) (t : Test) (told : IsTestOf f o t) where
       After c.at (stands_word f code words is_end c m p.0) (sym (eqb-true (c.at + 4) a q.1)))
       (by_even c a)
       (or_cases (ends_before c a) (is_even o c a) h))
-      (or_cases (leads_to c a) (ends_before c a || is_even o c a) e)
+      (or_cases (targets c a) (ends_before c a || is_even o c a) e)
 
   by_name : (a : ℕ) → is_named_by a ≡ true → Begins f o a
   by_name a e =
@@ -118,7 +118,7 @@ module _ (f : ElfFile) (o : Options) (t : Test) (told : IsTestOf f o t) where
   )
 
   -- at each code address a word stands
-  code_stands : (a : ℕ) → is_code f a ≡ true → stands code a ≡ true
+  code_stands : (a : ℕ) → is_code f a ≡ true → has_word_at code a ≡ true
   code_stands a e = let all = map (λ (c : CodeWord). c.at) code in listed all a (among_of a all ((words.addresses.all a).1 e))
 
   -- the reached addresses, as a set
@@ -140,28 +140,28 @@ module _ (f : ElfFile) (o : Options) (t : Test) (told : IsTestOf f o t) where
       (or_right (t.entry == a) (list_any (λ c. begins_by o c a) code || is_named_in f a) (or_left (list_any (λ c. begins_by o c a) code) (is_named_in f a) (any_passing (λ c. begins_by o c a) c code m e)))
 
   found : (a : ℕ) → a < 2 ^ 64 → is_code f a ≡ true → Begins f o a → is_found a ≡ true
-  found a lt stands (Entry e) =
+  found a lt has_word_at (Entry e) =
       or_left (is_named_by a) (is_entered f o t a) (or_left (t.entry == a) (list_any (λ c. begins_by o c a) code || is_named_in f a) (eq-eqb t.entry a (told.entry ∙ sym e)))
-  found a lt stands (Target i s e) =
+  found a lt has_word_at (Target i s e) =
       let w = standing_word f code words has_target i s in
       let is : target w.word.ins w.word.at ≡ a = ap (λ x. target x w.word.at) (sym w.instruction) ∙ ap (λ x. target s.instruction x) (sym w.at) ∙ sym e in
-      by_any w.word a w.among (or_left (leads_to w.word a) (ends_before w.word a || is_even o w.word a) (and_from (has_target (class_of w.word.ins.kind)) (target w.word.ins w.word.at == a) w.class (eq-eqb (target w.word.ins w.word.at) a is)))
-  found a lt stands (After i s e) =
+      by_any w.word a w.among (or_left (targets w.word a) (ends_before w.word a || is_even o w.word a) (and_from (has_target (class_of w.word.ins.kind)) (target w.word.ins w.word.at == a) w.class (eq-eqb (target w.word.ins w.word.at) a is)))
+  found a lt has_word_at (After i s e) =
       let w = standing_word f code words is_end i s in
       let is : w.word.at + 4 ≡ a = ap (λ x. x + 4) (sym w.at) ∙ sym e in
       by_any w.word a w.among
-      (or_right (leads_to w.word a) (ends_before w.word a || is_even o w.word a)
+      (or_right (targets w.word a) (ends_before w.word a || is_even o w.word a)
       (or_left (ends_before w.word a) (is_even o w.word a)
       (and_from (is_end (class_of w.word.ins.kind)) (nat_lt a (2 ^ 64) && (w.word.at + 4 == a)) w.class
       (and_from (nat_lt a (2 ^ 64)) (w.word.at + 4 == a) (lt-ltb a (2 ^ 64) lt) (eq-eqb (w.word.at + 4) a is)))))
-  found a lt stands (Named e) =
+  found a lt has_word_at (Named e) =
       or_left (is_named_by a) (is_entered f o t a) (or_right (t.entry == a) (list_any (λ c. begins_by o c a) code || is_named_in f a) (or_right (list_any (λ c. begins_by o c a) code) (is_named_in f a) e))
-  found a lt stands (Reached e h r) = or_right (is_named_by a) (is_entered f o t a) ((entered a).1 (e, h, r))
-  found a lt stands (Even lean multiple) =
-      let w = code_word f code words a stands in
+  found a lt has_word_at (Reached e h r) = or_right (is_named_by a) (is_entered f o t a) ((entered a).1 (e, h, r))
+  found a lt has_word_at (Even lean multiple) =
+      let w = code_word f code words a has_word_at in
       let at = w.word.at in
       by_any w.word a w.among
-      (or_right (leads_to w.word a) (ends_before w.word a || is_even o w.word a)
+      (or_right (targets w.word a) (ends_before w.word a || is_even o w.word a)
       (or_right (ends_before w.word a) (is_even o w.word a)
       (and_from (is_some o.lean) ((at % (4 * o.inst_max) == 0) && (at == a)) lean
       (and_from (at % (4 * o.inst_max) == 0) (at == a) (eq-eqb (at % (4 * o.inst_max)) 0 (ap (λ x. x % (4 * o.inst_max)) (sym w.at) ∙ multiple)) (eq-eqb at a (sym w.at))))))

@@ -6,7 +6,7 @@ use Rattle.std.proofs.lemmas.Bool.{false≢true, eqb-true, eq-eqb, false_from_ne
 use Rattle.tests.specs.declared.test.CodeWord.{CodeWord}
 use Rattle.machine.specs.Members.{Among, Every, Pairs}
 use Rattle.machine.proofs.Lemmas.{any_passing, passing, among-filter, among-kept, every_among}
-use Rattle.flow_recovery.specs.Sets.{lists, from_on, is_first}
+use Rattle.flow_recovery.specs.Sets.{lists, not_below, is_first}
 use Rattle.flow_recovery.specs.Words.{of_code}
 
 -- ---- pairs, by their places
@@ -49,21 +49,21 @@ none_above a b (c ∷ cs) lt h =
     let le = h.0 in
     ap (λ z. z || lists cs a) (false_from_ne_true (c == a) (λ e. let s = eqb-true c a e in omega (arith, s, le, lt))) ∙ none_above a b cs lt h.1
 
-from_pairs : (a : ℕ) (bs : List ℕ) → Pairs (λ x y. x ≤ y) bs → Pairs (λ x y. x ≤ y) (from_on a bs)
+from_pairs : (a : ℕ) (bs : List ℕ) → Pairs (λ x y. x ≤ y) bs → Pairs (λ x y. x ≤ y) (not_below a bs)
 from_pairs a [] h = tt
-from_pairs a (b ∷ bs) h = elim (nat_lt b a) as (λ z. Pairs (λ x y. x ≤ y) (if z then from_on a bs else b ∷ bs)) [ true ↦ from_pairs a bs h.1 | false ↦ h ]
+from_pairs a (b ∷ bs) h = elim (nat_lt b a) as (λ z. Pairs (λ x y. x ≤ y) (if z then not_below a bs else b ∷ bs)) [ true ↦ from_pairs a bs h.1 | false ↦ h ]
 
-from_by : (a b : ℕ) (bs : List ℕ) (x : ℕ) (z : Bool) → nat_lt b a ≡ z → a ≤ x → lists (from_on a bs) x ≡ lists bs x → lists (if z then from_on a bs else b ∷ bs) x ≡ lists (b ∷ bs) x
+from_by : (a b : ℕ) (bs : List ℕ) (x : ℕ) (z : Bool) → nat_lt b a ≡ z → a ≤ x → lists (not_below a bs) x ≡ lists bs x → lists (if z then not_below a bs else b ∷ bs) x ≡ lists (b ∷ bs) x
 from_by a b bs x false e le h = refl
 from_by a b bs x true e le h =
     let lt = ltb-true b a e in
     h ∙ ap (λ z. z || lists bs x) (sym (false_from_ne_true (b == x) (λ s. let t = eqb-true b x s in omega (arith, t, lt, le))))
 
-from_lists : (a : ℕ) (bs : List ℕ) (x : ℕ) → a ≤ x → lists (from_on a bs) x ≡ lists bs x
+from_lists : (a : ℕ) (bs : List ℕ) (x : ℕ) → a ≤ x → lists (not_below a bs) x ≡ lists bs x
 from_lists a [] x le = refl
 from_lists a (b ∷ bs) x le = from_by a b bs x (nat_lt b a) refl le (from_lists a bs x le)
 
-first_by : (a b : ℕ) (bs : List ℕ) (z y : Bool) → nat_lt b a ≡ z → (b == a) ≡ y → Every (λ c. b ≤ c) bs → is_first a (from_on a bs) ≡ lists bs a → is_first a (if z then from_on a bs else b ∷ bs) ≡ (y || lists bs a)
+first_by : (a b : ℕ) (bs : List ℕ) (z y : Bool) → nat_lt b a ≡ z → (b == a) ≡ y → Every (λ c. b ≤ c) bs → is_first a (not_below a bs) ≡ lists bs a → is_first a (if z then not_below a bs else b ∷ bs) ≡ (y || lists bs a)
 first_by a b bs true true e s h rec = let lt = ltb-true b a e in let t = eqb-true b a s in absurd (omega (arith, t, lt))
 first_by a b bs true false e s h rec = rec
 first_by a b bs false true e s h rec = s
@@ -72,14 +72,14 @@ first_by a b bs false false e s h rec =
     let ne : b ≡ a → ⊥ = λ t. false≢true (sym s ∙ eq-eqb b a t) in
     s ∙ sym (none_above a b bs (omega (arith, le, ne)) h)
 
-first_lists : (a : ℕ) (bs : List ℕ) → Pairs (λ x y. x ≤ y) bs → is_first a (from_on a bs) ≡ lists bs a
+first_lists : (a : ℕ) (bs : List ℕ) → Pairs (λ x y. x ≤ y) bs → is_first a (not_below a bs) ≡ lists bs a
 first_lists a [] h = refl
 first_lists a (b ∷ bs) h = first_by a b bs (nat_lt b a) (b == a) refl refl h.0 (first_lists a bs h.1)
 
 pub of_code_is : (named : List ℕ) (cs : List CodeWord) → Pairs (λ x y. x ≤ y) named → Pairs (λ x y. x < y) (map (λ (c : CodeWord). c.at) cs) → of_code named cs ≡ filter (lists named) (map (λ c. c.at) cs)
 of_code_is named [] h k = refl
 of_code_is named (c ∷ cs) h k =
-    let rest = from_on c.at named in
+    let rest = not_below c.at named in
     let behind : of_code rest cs ≡ filter (lists named) (map (λ (d : CodeWord). d.at) cs) =
     of_code_is rest cs (from_pairs c.at named h) k.1
     ∙ filter_alike (lists rest) (lists named) (map (λ (d : CodeWord). d.at) cs) (λ a m. let lt = every_among (λ y. c.at < y) a (map (λ (d : CodeWord). d.at) cs) k.0 m in from_lists c.at named a (omega (arith, lt))) in

@@ -7,7 +7,7 @@ use Rattle.elf_types.specs.declared.file.Segment.{Segment}
 use Rattle.tests.specs.declared.test.CodeWord.{CodeWord}
 use Rattle.tests.specs.declared.test.Test.{Test}
 use Rattle.machine.specs.Table.{ins, Ins, Auipc, Addi, Jalr, Ecall}
-use Rattle.tests.specs.Admission.Reached.{leads, once, twice, made_by, is_reached}
+use Rattle.tests.specs.Admission.Reached.{leads, one_pass, twice, made_by, is_reached}
 
 -- constants at 4144 and 4097, a linking jump to 4116, and ends; no rule looks at `word`
 abbrev code_from : ℕ → List Ins → List CodeWord
@@ -42,5 +42,5 @@ test = record {
 
 -- the entry; by the link; by two immediates; by the distance; by the word
 reached_words : map (λ c. is_reached file test c.at) code ≡ true ∷ false ∷ false ∷ false ∷ true ∷ true ∷ true ∷ true ∷ false ∷ []
-unfolding leads once twice made_by
+unfolding leads one_pass twice made_by
 reached_words = refl

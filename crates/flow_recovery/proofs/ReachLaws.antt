@@ -11,7 +11,7 @@ use Rattle.elf_types.specs.declared.file.Symbol.{Symbol}
 use Rattle.tests.specs.declared.test.CodeWord.{CodeWord}
 use Rattle.tests.specs.declared.test.Test.{Test}
 use Rattle.tests.specs.Admission.Terms.{is_named, is_named_in, is_relocated, ElfFile, Segment}
-use Rattle.flow_recovery.specs.Sets.{lists, stands, Adds, AddsAt}
+use Rattle.flow_recovery.specs.Sets.{lists, has_word_at, Adds, AddsAt}
 use Rattle.tests.specs.Admission.Reached.{links_to, is_in_data, is_made, is_reached}
 use Rattle.flow_recovery.proofs.SetLaws.{adds_then}
 use Rattle.flow_recovery.proofs.OrderLaws.{listed}
@@ -23,7 +23,7 @@ pub reached_found :
     → Adds s u (λ a. t.entry == a) → Adds u v (λ a. list_any (λ c. links_to c a) words)
     → Adds v w (is_named symbols) → Adds w x (is_relocated symbols relas)
     → Adds x y (λ a. list_any (is_in_data t.base a) segments)
-    → ((a : ℕ) → stands t.code a ≡ true → lists made a ≡ is_made t a t.code) → Adds y z (lists made)
+    → ((a : ℕ) → has_word_at t.code a ≡ true → lists made a ≡ is_made t a t.code) → Adds y z (lists made)
     → AddsAt t.code s z (is_reached f t)
 reached_found f t words symbols relas segments made s u v w x y z code by_symbols by_relas image entry links named relocated held is_made_by last =
     let of_links : Adds u v (λ a. list_any (λ c. links_to c a) t.code) = subst (λ ws. Adds u v (λ a. list_any (λ c. links_to c a) ws)) code links in
@@ -43,13 +43,13 @@ reached_found f t words symbols relas segments made s u v w x y z code by_symbol
     }
 
 -- for each word of the code, whether it is reached
-marked_by : (words all : List CodeWord) (p q : ℕ → Bool) → ((c : CodeWord) → Among c words → Among c all) → ((a : ℕ) → stands all a ≡ true → p a ≡ q a) → map (λ (c : CodeWord). p c.at) words ≡ map (λ c. q c.at) words
+marked_by : (words all : List CodeWord) (p q : ℕ → Bool) → ((c : CodeWord) → Among c words → Among c all) → ((a : ℕ) → has_word_at all a ≡ true → p a ≡ q a) → map (λ (c : CodeWord). p c.at) words ≡ map (λ c. q c.at) words
 marked_by [] all p q within same = refl
 marked_by (c ∷ cs) all p q within same =
     ap (λ b. b ∷ map (λ (d : CodeWord). p d.at) cs) (same c.at (listed (map (λ (d : CodeWord). d.at) all) c.at (among-map (λ (d : CodeWord). d.at) c all (within c (inl refl)))))
     ∙ ap (λ bs. q c.at ∷ bs) (marked_by cs all p q (λ d m. within d (inr m)) same)
 
-pub marked : (f : ElfFile) (t : Test) (words : List CodeWord) (set : BTreeSet ℕ) (list : List ℕ) (marks : List Bool) → words ≡ t.code → ((a : ℕ) → has_address set a ≡ lists list a) → ((a : ℕ) → stands t.code a ≡ true → lists list a ≡ is_reached f t a) → marks ≡ map (λ c. has_address set c.at) words → marks ≡ map (λ c. is_reached f t c.at) t.code
+pub marked : (f : ElfFile) (t : Test) (words : List CodeWord) (set : BTreeSet ℕ) (list : List ℕ) (marks : List Bool) → words ≡ t.code → ((a : ℕ) → has_address set a ≡ lists list a) → ((a : ℕ) → has_word_at t.code a ≡ true → lists list a ≡ is_reached f t a) → marks ≡ map (λ c. has_address set c.at) words → marks ≡ map (λ c. is_reached f t c.at) t.code
 marked f t words set list marks code set_is list_is is =
     is
     ∙ ap (λ ws. map (λ (c : CodeWord). has_address set c.at) ws) code

@@ -6,7 +6,7 @@ use Rattle.machine.specs.Sets.{has_address}
 use Rattle.machine.specs.Step.{imm}
 use Rattle.tests.specs.declared.test.CodeWord.{CodeWord}
 use Rattle.tests.specs.declared.test.Test.{Test}
-use Rattle.tests.specs.Admission.Reached.{leads, once, adds_to}
+use Rattle.tests.specs.Admission.Reached.{leads, one_pass, adds_to}
 use Rattle.flow_recovery.specs.declared.found.Code.{Code}
 use Rattle.flow_recovery.specs.declared.found.Found.{Found}
 
@@ -15,22 +15,22 @@ abbrev pub is_recent : List (Option ℕ) → ℕ → Bool
 is_recent recent u = list_any (λ s. is_at s u) recent
 
 -- all that remembered constants lead to was added
-abbrev pub IsKept : Code → Found → Type 0
-IsKept c f = (u a : ℕ) → is_recent f.recent.items u ≡ true → has_address c.places.now a ≡ true → leads c.test.now u a ≡ true → has_address f.reached a ≡ true
+abbrev pub IsAdded : Code → Found → Type 0
+IsAdded c f = (u a : ℕ) → is_recent f.recent.items u ≡ true → has_address c.places.now a ≡ true → leads c.test.now u a ≡ true → has_address f.reached a ≡ true
 
 -- the address was added, or a value of the global pointer leads to it
 abbrev pub covers : Code → Found → ℕ → Bool
-covers c f a = has_address f.reached a || list_any (λ v. once c.test.now c.test.now.code 3 v a) f.pointers.items
+covers c f a = has_address f.reached a || list_any (λ v. one_pass c.test.now c.test.now.code 3 v a) f.pointers.items
 
 -- at the addresses of words: the new finds cover what the old ones did and what passes the test, and no more
-pub record Covers (c : Code) (old new : Found) (test : ℕ → Bool) : Type 0 where
-  pub kept : IsKept c old → IsKept c new
-  pub each : IsKept c old → (a : ℕ) → has_address c.places.now a ≡ true → covers c new a ≡ (covers c old a || test a)
+pub record CoversFound (c : Code) (old new : Found) (test : ℕ → Bool) : Type 0 where
+  pub kept : IsAdded c old → IsAdded c new
+  pub each : IsAdded c old → (a : ℕ) → has_address c.places.now a ≡ true → covers c new a ≡ (covers c old a || test a)
 
 -- at the addresses of words: with `rest`, the new finds cover what the old ones did and what passes the test
 pub record CoversBut (c : Code) (old new : Found) (test rest : ℕ → Bool) : Type 0 where
-  pub kept : IsKept c old → IsKept c new
-  pub each : IsKept c old → (a : ℕ) → has_address c.places.now a ≡ true → (covers c new a || rest a) ≡ (covers c old a || test a)
+  pub kept : IsAdded c old → IsAdded c new
+  pub each : IsAdded c old → (a : ℕ) → has_address c.places.now a ≡ true → (covers c new a || rest a) ≡ (covers c old a || test a)
 
 -- the word adds the number to the global pointer
 abbrev pub is_offset : CodeWord → ℕ → Bool

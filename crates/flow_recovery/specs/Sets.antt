@@ -14,12 +14,12 @@ pub record Adds (old new : List ℕ) (test : ℕ → Bool) : Type 0 where
   pub each : (a : ℕ) → lists new a ≡ (lists old a || test a)
 
 -- a word stands at the address
-abbrev pub stands : List CodeWord → ℕ → Bool
-stands words a = lists (map (λ c. c.at) words) a
+abbrev pub has_word_at : List CodeWord → ℕ → Bool
+has_word_at words a = lists (map (λ c. c.at) words) a
 
 -- at the addresses of words: the new list holds what the old one does and what passes the test
 pub record AddsAt (words : List CodeWord) (old new : List ℕ) (test : ℕ → Bool) : Type 0 where
-  pub each : (a : ℕ) → stands words a ≡ true → lists new a ≡ (lists old a || test a)
+  pub each : (a : ℕ) → has_word_at words a ≡ true → lists new a ≡ (lists old a || test a)
 
 -- the new set holds what the old one does and what passes the test
 pub record Gains (old new : BTreeSet ℕ) (test : ℕ → Bool) : Type 0 where
@@ -30,9 +30,9 @@ pub record AddsBut (old new : List ℕ) (test rest : ℕ → Bool) : Type 0 wher
   pub each : (a : ℕ) → (lists new a || rest a) ≡ (lists old a || test a)
 
 -- of ascending addresses, those that are not below a
-abbrev pub from_on : ℕ → List ℕ → List ℕ
-from_on a [] = []
-from_on a (b ∷ bs) = if nat_lt b a then from_on a bs else b ∷ bs
+abbrev pub not_below : ℕ → List ℕ → List ℕ
+not_below a [] = []
+not_below a (b ∷ bs) = if nat_lt b a then not_below a bs else b ∷ bs
 
 -- the first of the addresses is a
 abbrev pub is_first : ℕ → List ℕ → Bool

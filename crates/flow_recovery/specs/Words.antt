@@ -12,11 +12,11 @@ use Rattle.machine.specs.Step.{target, class_of}
 use Rattle.tests.specs.Admission.Leaders.{has_target, is_end, is_indirect}
 use Rattle.tests.specs.Admission.Reached.{is_reached}
 use Rattle.tests.specs.Admission.Terms.{is_named, is_relocated, ElfFile}
-use Rattle.flow_recovery.specs.Sets.{from_on, is_first}
+use Rattle.flow_recovery.specs.Sets.{not_below, is_first}
 
 -- the address is the target of the word
-abbrev pub leads_to : CodeWord → ℕ → Bool
-leads_to c a = has_target (class_of c.ins.kind) && (target c.ins c.at == a)
+abbrev pub targets : CodeWord → ℕ → Bool
+targets c a = has_target (class_of c.ins.kind) && (target c.ins c.at == a)
 
 -- the word ends a block, and the address, below 2^64, is the one behind it
 abbrev pub ends_before : CodeWord → ℕ → Bool
@@ -28,7 +28,7 @@ is_even o c a = is_some o.lean && ((c.at % (4 * o.inst_max) == 0) && (c.at == a)
 
 -- a block begins at the address by any of these
 abbrev pub begins_by : Options → CodeWord → ℕ → Bool
-begins_by o c a = leads_to c a || (ends_before c a || is_even o c a)
+begins_by o c a = targets c a || (ends_before c a || is_even o c a)
 
 -- the address is the entry, or a word, a symbol or a relocation names it
 abbrev pub is_begun : Options → ℕ → List CodeWord → List Symbol → List Rela → ℕ → Bool
@@ -46,4 +46,4 @@ is_entered f o t a = is_chosen o.entries && (list_any (λ c. is_indirect (class_
 -- of ascending addresses, those at which words stand
 abbrev pub of_code : List ℕ → List CodeWord → List ℕ
 of_code named [] = []
-of_code named (c ∷ cs) = if is_first c.at (from_on c.at named) then c.at ∷ of_code (from_on c.at named) cs else of_code (from_on c.at named) cs
+of_code named (c ∷ cs) = if is_first c.at (not_below c.at named) then c.at ∷ of_code (not_below c.at named) cs else of_code (not_below c.at named) cs

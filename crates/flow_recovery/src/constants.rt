@@ -1,8 +1,9 @@
 //! Addresses that LUI, AUIPC and additions to x0 make, with at most two more immediates.
 ghost use Rattle.std.specs.Prelude.{◌≡◌, OnOk};
 ghost use Rattle.machine.specs.Step.{target};
-ghost use Rattle.flow_recovery.specs.Found.{Covers};
-ghost use Rattle.tests.specs.Admission.Reached.{leads, is_sum, adds_to, sum_leads, once, sums_lead, users, near_by, twice, is_upper, makes_constant, constant, made_by, is_made};
+ghost use Rattle.flow_recovery.specs.Found.{CoversFound};
+ghost use Rattle.tests.specs.Admission.Reached.{leads, is_sum, adds_to, sum_leads, one_pass, sums_lead, users, near_by, twice, is_upper, makes_constant};
+ghost use Rattle.tests.specs.Admission.Reached.{constant, made_by, is_made};
 
 use crate::found::{Code, Found, add_constant, add_pointer};
 use crate::words::target_from;
@@ -38,7 +39,7 @@ fn add_sum(
     known: &Known<'_>,
     word: &CodeWord,
 ) -> Result<(), AllocError>
-    ensures { OnOk result (Covers code.now found.old found.new (λ a. sum_leads code.now.test.now known.now.register known.now.value a word.now)) }
+    ensures { OnOk result (CoversFound code.now found.old found.new (λ a. sum_leads code.now.test.now known.now.register known.now.value a word.now)) }
 {
     if adds_to(known.register.number(), &word.ins) {
         add_constant(found, code, target_from(&word.ins, known.value))?;
@@ -47,9 +48,9 @@ fn add_sum(
 }
 
 /// Adds a register's value, and what the immediate of one word near by makes of it.
-#[tactic(auto, using(crate::proofs::SetLaws::adds_more, crate::proofs::SetLaws::adds_all), unfolding(tests::specs::Admission::Reached::once))]
+#[tactic(auto, using(crate::proofs::SetLaws::adds_more, crate::proofs::SetLaws::adds_all), unfolding(tests::specs::Admission::Reached::one_pass))]
 fn add_once(found: &mut Found, code: &Code<'_>, known: &Known<'_>) -> Result<(), AllocError>
-    ensures { OnOk result (Covers code.now found.old found.new (once code.now.test.now known.now.near.now known.now.register known.now.value)) }
+    ensures { OnOk result (CoversFound code.now found.old found.new (one_pass code.now.test.now known.now.near.now known.now.register known.now.value)) }
 {
     add_constant(found, code, known.value)?;
     for word in known.near {
@@ -73,7 +74,7 @@ fn add_held(
     register: Reg,
     value: u64,
 ) -> Result<(), AllocError>
-    ensures { OnOk result (Covers code.now found.old found.new (once code.now.test.now (near_by code.now.test.now near.now register) register value)) }
+    ensures { OnOk result (CoversFound code.now found.old found.new (one_pass code.now.test.now (near_by code.now.test.now near.now register) register value)) }
 {
     if register.number() == GP {
         return add_pointer(found, code, value);
@@ -93,7 +94,8 @@ fn add_sums(
     known: &Known<'_>,
     word: &CodeWord,
 ) -> Result<(), AllocError>
-    ensures { OnOk result (Covers code.now found.old found.new (λ a. sums_lead code.now.test.now known.now.near.now known.now.register known.now.value a word.now)) }
+    ensures { OnOk result (CoversFound code.now found.old found.new (λ a.
+        sums_lead code.now.test.now known.now.near.now known.now.register known.now.value a word.now)) }
 {
     if adds_to(known.register.number(), &word.ins) {
         let value = target_from(&word.ins, known.value);
@@ -104,7 +106,7 @@ fn add_sums(
 
 /// Adds a register's value, and what the immediates of at most two nearby words make of it.
 fn add_twice(found: &mut Found, code: &Code<'_>, known: &Known<'_>) -> Result<(), AllocError>
-    ensures { OnOk result (Covers code.now found.old found.new (twice code.now.test.now known.now.near.now known.now.register known.now.value)) }
+    ensures { OnOk result (CoversFound code.now found.old found.new (twice code.now.test.now known.now.near.now known.now.register known.now.value)) }
 {
     add_constant(found, code, known.value)?;
     for word in known.near {
@@ -138,7 +140,7 @@ fn add_made(
     near: &[CodeWord],
     word: &CodeWord,
 ) -> Result<(), AllocError>
-    ensures { OnOk result (Covers code.now found.old found.new (made_by code.now.test.now near.now word.now)) }
+    ensures { OnOk result (CoversFound code.now found.old found.new (made_by code.now.test.now near.now word.now)) }
 {
     if makes_constant(&word.ins) {
         let known = Known {
@@ -153,7 +155,7 @@ fn add_made(
 
 /// Adds the constants that the code makes.
 pub(crate) fn add_constants(found: &mut Found, code: &Code<'_>) -> Result<(), AllocError>
-    ensures { OnOk result (Covers code.now found.old found.new (λ a. is_made code.now.test.now a code.now.test.now.code)) }
+    ensures { OnOk result (CoversFound code.now found.old found.new (λ a. is_made code.now.test.now a code.now.test.now.code)) }
 {
     let mut left = code.test.code.as_slice();
     while let [word, rest @ ..] = left {

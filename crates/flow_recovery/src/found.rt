@@ -1,9 +1,9 @@
 //! What constants lead to. A repeated constant is skipped.
 ghost use Rattle.std.specs.Prelude.{◌≡◌, ◌%◌, [], ℕ, ◌==◌, ◌&&◌, ◌||◌, Option, None, true, false, OnOk, IfOk};
 ghost use Rattle.machine.specs.Sets.{has_address};
-ghost use Rattle.tests.specs.Admission.Reached.{leads, once};
+ghost use Rattle.tests.specs.Admission.Reached.{leads, one_pass};
 ghost use Rattle.flow_recovery.specs.Sets.{Gains};
-ghost use Rattle.flow_recovery.specs.Found.{Covers, IsKept, is_recent};
+ghost use Rattle.flow_recovery.specs.Found.{CoversFound, IsAdded, is_recent};
 
 use crate::sets::insert;
 use crate::stored::add_tables;
@@ -67,7 +67,7 @@ fn add_place(reached: &mut BTreeSet<u64>, code: &Code<'_>, address: u64) -> Resu
 #[tactic(auto, using(crate::proofs::FoundLaws::recent_covers))]
 pub(crate) fn add_constant(found: &mut Found, code: &Code<'_>, value: u64) -> Result<(), AllocError>
     ensures same { OnOk result (found.new.pointers ≡ found.old.pointers) }
-    ensures covers { OnOk result (Covers code.now found.old found.new (leads code.now.test.now value)) }
+    ensures covers { OnOk result (CoversFound code.now found.old found.new (leads code.now.test.now value)) }
 {
     if is_recent(found.recent.as_slice(), value) {
         return Ok(());
@@ -80,7 +80,7 @@ pub(crate) fn add_constant(found: &mut Found, code: &Code<'_>, value: u64) -> Re
 
 /// Adds a value of the global pointer.
 pub(crate) fn add_pointer(found: &mut Found, code: &Code<'_>, value: u64) -> Result<(), AllocError>
-    ensures { OnOk result (Covers code.now found.old found.new (once code.now.test.now code.now.test.now.code 3 value)) }
+    ensures { OnOk result (CoversFound code.now found.old found.new (one_pass code.now.test.now code.now.test.now.code 3 value)) }
 {
     found.pointers.push(value)?;
     Ok(())

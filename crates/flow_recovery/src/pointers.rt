@@ -3,8 +3,8 @@ ghost use Rattle.std.specs.Prelude.{◌≡◌, ℕ, ◌+◌, ◌%◌, ◌^◌, �
 ghost use Rattle.std.specs.List.{list_any};
 ghost use Rattle.machine.specs.Sets.{has_address};
 ghost use Rattle.tests.specs.Admission.Reached.{leads, adds_to, is_made};
-ghost use Rattle.flow_recovery.specs.Sets.{lists, stands, Adds};
-ghost use Rattle.flow_recovery.specs.Found.{Covers, covers, IsKept, is_offset, sum_leads_on, sums_lead_on};
+ghost use Rattle.flow_recovery.specs.Sets.{lists, has_word_at, Adds};
+ghost use Rattle.flow_recovery.specs.Found.{CoversFound, covers, IsAdded, is_offset, sum_leads_on, sums_lead_on};
 
 use crate::constants::{GP, add_constants, adds_to};
 use crate::found::{Code, Found, add_constant, begun};
@@ -52,7 +52,7 @@ fn add_pointed(
     offsets: &[u64],
 ) -> Result<(), AllocError>
     ensures same { OnOk result (found.new.pointers ≡ found.old.pointers) }
-    ensures covers { OnOk result (Covers code.now found.old found.new (λ a. sums_lead_on code.now.test.now offsets.now a value)) }
+    ensures covers { OnOk result (CoversFound code.now found.old found.new (λ a. sums_lead_on code.now.test.now offsets.now a value)) }
 {
     add_constant(found, code, value)?;
     for offset in offsets {
@@ -69,7 +69,7 @@ fn add_all_pointed(
     offsets: &[u64],
 ) -> Result<(), AllocError>
     ensures same { OnOk result (found.new.pointers ≡ found.old.pointers) }
-    ensures covers { OnOk result (Covers code.now found.old found.new (λ a. list_any (sums_lead_on code.now.test.now offsets.now a) values.now)) }
+    ensures covers { OnOk result (CoversFound code.now found.old found.new (λ a. list_any (sums_lead_on code.now.test.now offsets.now a) values.now)) }
 {
     for value in values {
         add_pointed(found, code, *value, offsets)?;
@@ -79,7 +79,7 @@ fn add_all_pointed(
 
 /// What constants lead to, with the sums of the global pointer's values.
 fn summed(alloc: Global, found: Found, code: &Code<'_>) -> Result<BTreeSet<u64>, AllocError>
-    ensures { IfOk result (λ set. IsKept code.now found → (a : ℕ) → has_address code.now.places.now a ≡ true → has_address set a ≡ covers code.now found a) }
+    ensures { IfOk result (λ set. IsAdded code.now found → (a : ℕ) → has_address code.now.places.now a ≡ true → has_address set a ≡ covers code.now found a) }
 {
     let Found {
         reached,
@@ -98,10 +98,11 @@ fn summed(alloc: Global, found: Found, code: &Code<'_>) -> Result<BTreeSet<u64>,
     Ok(all.reached)
 }
 
+/// Of the addresses at which words stand, those to which a constant of the code leads. Nothing is
+/// said of other addresses in the list.
 #[tactic(auto, using(crate::proofs::FoundLaws::made_is))]
-/// The addresses that the constants of the code lead to: all at which words stand.
 pub(crate) fn made(alloc: Global, test: &Test) -> Result<Vec<u64>, AllocError>
-    ensures { IfOk result (λ list. (a : ℕ) → stands test.now.code a ≡ true → lists list.items a ≡ is_made test.now a test.now.code) }
+    ensures { IfOk result (λ list. (a : ℕ) → has_word_at test.now.code a ≡ true → lists list.items a ≡ is_made test.now a test.now.code) }
 {
     let places = places(alloc, test.code.as_slice())?;
     let code = Code {

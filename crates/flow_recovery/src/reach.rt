@@ -2,7 +2,7 @@
 ghost use Rattle.std.specs.Prelude.{◌≡◌, ℕ, true, map, OnOk, IfOk};
 ghost use Rattle.std.specs.List.{list_any};
 ghost use Rattle.machine.specs.Sets.{has_address};
-ghost use Rattle.flow_recovery.specs.Sets.{lists, stands, Adds, AddsAt};
+ghost use Rattle.flow_recovery.specs.Sets.{lists, has_word_at, Adds, AddsAt};
 ghost use Rattle.tests.specs.Admission.Reached.{links_to, is_reached};
 
 use crate::classes::is_jump;
@@ -58,7 +58,7 @@ pub(crate) fn add_reached(
 /// The reached addresses.
 #[tactic(auto, using(crate::proofs::SetLaws::at_first))]
 fn listed(alloc: Global, test: &Test, file: &ElfFile) -> Result<Vec<u64>, AllocError>
-    ensures { IfOk result (λ list. (a : ℕ) → stands test.now.code a ≡ true → lists list.items a ≡ is_reached file.now test.now a) }
+    ensures { IfOk result (λ list. (a : ℕ) → has_word_at test.now.code a ≡ true → lists list.items a ≡ is_reached file.now test.now a) }
 {
     let mut list = Vec::new(alloc);
     add_reached(&mut list, test, file)?;

@@ -8,7 +8,7 @@ ghost use Rattle.tests.specs.Admission.Leaders.{is_indirect, HasIndirect};
 ghost use Rattle.tests.specs.Admission.Test.{AreCodeWords, IsTestOf};
 ghost use Rattle.qed_model.specs.Weave.Blocks.{IsEntered};
 ghost use Rattle.machine.specs.Sets.{has_address};
-ghost use Rattle.flow_recovery.specs.Sets.{lists, Adds, AddsAt, from_on, is_first};
+ghost use Rattle.flow_recovery.specs.Sets.{lists, Adds, AddsAt, not_below, is_first};
 ghost use Rattle.flow_recovery.specs.Words.{is_begun, is_chosen, is_entered, of_code};
 ghost use Rattle.flow_recovery.specs.Leaders.{AreLeaders};
 
@@ -24,7 +24,7 @@ use std::collections::BTreeSet;
 
 /// Of ascending addresses, those that are not below one.
 fn from_on(address: u64, addresses: &[u64]) -> &[u64]
-    ensures { result.now ≡ from_on address addresses.now }
+    ensures { result.now ≡ not_below address addresses.now }
 {
     let mut left = addresses;
     while let [first, rest @ ..] = left {

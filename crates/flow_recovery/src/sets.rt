@@ -1,7 +1,7 @@
 //! Addresses: first a list, in any order and with repetitions, then a set.
-ghost use Rattle.std.specs.Prelude.{◌≡◌, ℕ, ◌==◌, map, OnOk, IfOk};
+ghost use Rattle.std.specs.Prelude.{◌≡◌, ℕ, ◌==◌, ◌<◌, map, AllPairs, OnOk, IfOk};
 ghost use Rattle.machine.specs.Sets.{has_address};
-ghost use Rattle.flow_recovery.specs.Sets.{lists, stands, Adds, Gains};
+ghost use Rattle.flow_recovery.specs.Sets.{lists, has_word_at, Adds, Gains};
 
 use qed_model::CodeWord;
 use std::alloc::{AllocError, Global};
@@ -33,14 +33,17 @@ pub fn insert(set: &mut BTreeSet<u64>, address: u64) -> Result<(), AllocError>
 
 /// The numbers of a set, in ascending order.
 pub fn numbers(alloc: Global, set: BTreeSet<u64>) -> Result<Vec<u64>, AllocError>
-    ensures { IfOk result (λ list. (a : ℕ) → lists list.items a ≡ has_address set a) }
+    ensures exact { IfOk result (λ list. (a : ℕ) → lists list.items a ≡ has_address set a) }
+    ensures ascending { IfOk result (λ list. AllPairs (λ a b. a < b) list.items) }
 {
-    set.into_iter().collect(alloc)
+    let list = set.into_iter().collect(alloc)?;
+    Ok(list)
 }
 
 /// The numbers of a list in ascending order, each once.
 pub fn distinct(alloc: Global, list: Vec<u64>) -> Result<Vec<u64>, AllocError>
-    ensures { IfOk result (λ kept. (a : ℕ) → lists kept.items a ≡ lists list.items a) }
+    ensures exact { IfOk result (λ kept. (a : ℕ) → lists kept.items a ≡ lists list.items a) }
+    ensures ascending { IfOk result (λ kept. AllPairs (λ a b. a < b) kept.items) }
 {
     let set = set_of(alloc, list)?;
     let kept = numbers(alloc, set)?;
@@ -66,7 +69,7 @@ fn addresses(alloc: Global, words: &[CodeWord]) -> Result<Vec<u64>, AllocError>
 
 /// The addresses at which words stand.
 pub fn places(alloc: Global, words: &[CodeWord]) -> Result<BTreeSet<u64>, AllocError>
-    ensures { IfOk result (λ set. (a : ℕ) → has_address set a ≡ stands words.now a) }
+    ensures { IfOk result (λ set. (a : ℕ) → has_address set a ≡ has_word_at words.now a) }
 {
     let list = addresses(alloc, words)?;
     let set = set_of(alloc, list)?;

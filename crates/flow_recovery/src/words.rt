@@ -5,7 +5,7 @@ ghost use Rattle.rv_isa.specs.Kind.{class_of};
 ghost use Rattle.tests.specs.Admission.Leaders.{has_target, is_end};
 ghost use Rattle.machine.specs.Step.{target};
 ghost use Rattle.flow_recovery.specs.Sets.{Adds};
-ghost use Rattle.flow_recovery.specs.Words.{leads_to, ends_before, is_even, begins_by};
+ghost use Rattle.flow_recovery.specs.Words.{targets, ends_before, is_even, begins_by};
 
 use crate::classes::{has_target, is_end};
 use crate::sets::add;
@@ -22,7 +22,7 @@ pub fn target_from(ins: &Ins, number: u64) -> u64
 
 /// Adds the target of a JAL or a branch.
 fn add_target(list: &mut Vec<u64>, word: &CodeWord) -> Result<(), AllocError>
-    ensures { OnOk result (Adds list.old.items list.new.items (leads_to word.now)) }
+    ensures { OnOk result (Adds list.old.items list.new.items (targets word.now)) }
 {
     if has_target(word.ins.class()) {
         add(list, target_from(&word.ins, word.at))?;

@@ -27,7 +27,13 @@ module _ (far : Bool) where
   honest_go_on n = honest_items_then far (Constant SIGNATURE n ∷ []) (Go n ∷ []) (honest_constant far 16 n) (honest_go far n)
 
   honest_links : (i : Ins) (at : ℕ) → HonestItems far (links i at)
-  honest_links i at = elim (i.rd == 0) as (λ t. HonestItems far (cond t [] (Constant i.rd ((at + 4) % 2 ^ 64) ∷ Constant (pair i.rd) ((at + 4) % 2 ^ 64) ∷ []))) [ true ↦ honest_items_none far | false ↦ honest_items_then far (Constant i.rd ((at + 4) % 2 ^ 64) ∷ []) (Constant (pair i.rd) ((at + 4) % 2 ^ 64) ∷ []) (honest_constant far i.rd ((at + 4) % 2 ^ 64)) (honest_constant far (pair i.rd) ((at + 4) % 2 ^ 64)) ]
+  honest_links i at =
+      elim (i.rd == 0) as (λ t. HonestItems far (cond t [] (Constant i.rd ((at + 4) % 2 ^ 64) ∷ Constant (pair i.rd) ((at + 4) % 2 ^ 64) ∷ []))) [
+        | true ↦ honest_items_none far
+        | false ↦ honest_items_then far
+            (Constant i.rd ((at + 4) % 2 ^ 64) ∷ []) (Constant (pair i.rd) ((at + 4) % 2 ^ 64) ∷ [])
+            (honest_constant far i.rd ((at + 4) % 2 ^ 64)) (honest_constant far (pair i.rd) ((at + 4) % 2 ^ 64))
+      ]
 
   honest_both : (i : Ins) → i.rs1 ≤ LAST_ORIGINAL → i.rs2 ≤ LAST_ORIGINAL → HonestItems far (guards_of i)
   honest_both i h1 h2 = honest_items_then far (guard i.rs1) (cond (i.rs2 == i.rs1) [] (guard i.rs2)) (honest_guard far i.rs1 h1) (second (i.rs2 == i.rs1)) where
@@ -54,7 +60,10 @@ module _ (far : Bool) where
       let p : a + 24 ≡ (a + 4 + 4 + 4 + 12) % 2 ^ 64 = omega (arith, near) in
       let q : a + 24 ≡ a + 4 + 4 + 4 + 4 + 4 + 4 = omega arith in
       record {
-        each = (subst (λ q. HonestAs q c a i) (sym e) (subst (NoBreak c) s n16, λ b. absurd (n4 b)), (n8, (n12, (subst (NoBreak c) p calm, (n20, (subst (NoBreak c) q calm, tt))))));
+        each = (
+          subst (λ q. HonestAs q c a i) (sym e) (subst (NoBreak c) s n16, λ b. absurd (n4 b)),
+          (n8, (n12, (subst (NoBreak c) p calm, (n20, (subst (NoBreak c) q calm, tt))))),
+        );
         front = other_word c a i class.Branch has.0 e (λ e. absurd (cc));
       }
 
@@ -69,7 +78,13 @@ honest_last false i n t e m c en a near has calm ent =
     let w2 = ent t in
     let s : a + 4 + 4 ≡ (a + imm i) % 2 ^ 64 = omega (arith, near, m) in
     record {
-      each = (subst (λ q. HonestAs q c a i) (sym e) (subst (NoBreak c) s n8, λ b. absurd (n4 b)), (subst (NoBreak c) (sym (difference (a + 4) (en n) (omega (arith, near)) w1.0)) w1.1, (subst (NoBreak c) (sym (difference (a + 4 + 4) (en t) (omega (arith, near)) w2.0)) w2.1, tt)));
+      each = (
+        subst (λ q. HonestAs q c a i) (sym e) (subst (NoBreak c) s n8, λ b. absurd (n4 b)),
+        (
+          subst (NoBreak c) (sym (difference (a + 4) (en n) (omega (arith, near)) w1.0)) w1.1,
+          (subst (NoBreak c) (sym (difference (a + 4 + 4) (en t) (omega (arith, near)) w2.0)) w2.1, tt),
+        ),
+      );
       front = other_word c a i class.Branch has.0 e (λ e. absurd (cc));
     }
 honest_last true i n t e m c en a near has calm ent =
@@ -99,23 +114,35 @@ honest_as class.Branch next far i at e f =
     let n = (at + 4) % 2 ^ 64 in
     let t = target i at in
     let last = Plain b ∷ Go n ∷ Go t ∷ [] in
-    honest_items_then far (Plain first ∷ Constant SIGNATURE n ∷ Plain (ins Jal 0 0 0 (pos 12)) ∷ Constant SIGNATURE t ∷ []) (guards_of i ++ last) (honest_turn far first n t e refl)
+    honest_items_then far (Plain first ∷ Constant SIGNATURE n ∷ Plain (ins Jal 0 0 0 (pos 12)) ∷ Constant SIGNATURE t ∷ [])
+    (guards_of i ++ last)
+    (honest_turn far first n t e refl)
     (honest_items_then far (guards_of i) last (honest_both far i f.0 f.1) (honest_last far b n t e (small_size far)))
 honest_as class.JumpReg next far i at e f =
     let two = neg_ℤ (pos 2) in
-    let look : List Item = Plain (ins Add SPARE TEMPORARY DISTANCE (pos 0)) ∷ Plain (ins Add SPARE SPARE DISTANCE (pos 0)) ∷ Plain (ins Lw TEMPORARY SPARE 0 (pos 0)) ∷ Plain (ins Add TEMPORARY TEMPORARY SPARE (pos 0)) ∷ Plain (ins Jalr 0 TEMPORARY 0 (pos 0)) ∷ [] in
+    let look : List Item =
+    Plain (ins Add SPARE TEMPORARY DISTANCE (pos 0)) ∷ Plain (ins Add SPARE SPARE DISTANCE (pos 0))
+    ∷ Plain (ins Lw TEMPORARY SPARE 0 (pos 0)) ∷ Plain (ins Add TEMPORARY TEMPORARY SPARE (pos 0)) ∷ Plain (ins Jalr 0 TEMPORARY 0 (pos 0)) ∷ [] in
     let taken : List Item = Plain (ins Addi TEMPORARY i.rs1 0 i.imm) ∷ Plain (ins Andi TEMPORARY TEMPORARY 0 two) ∷ (links i at ++ look) in
     let looks : HonestItems far look =
-    computes far (ins Add SPARE TEMPORARY DISTANCE (pos 0)) (Plain (ins Add SPARE SPARE DISTANCE (pos 0)) ∷ Plain (ins Lw TEMPORARY SPARE 0 (pos 0)) ∷ Plain (ins Add TEMPORARY TEMPORARY SPARE (pos 0)) ∷ Plain (ins Jalr 0 TEMPORARY 0 (pos 0)) ∷ []) refl
-    (computes far (ins Add SPARE SPARE DISTANCE (pos 0)) (Plain (ins Lw TEMPORARY SPARE 0 (pos 0)) ∷ Plain (ins Add TEMPORARY TEMPORARY SPARE (pos 0)) ∷ Plain (ins Jalr 0 TEMPORARY 0 (pos 0)) ∷ []) refl
-    (plain_then far (ins Lw TEMPORARY SPARE 0 (pos 0)) (Plain (ins Add TEMPORARY TEMPORARY SPARE (pos 0)) ∷ Plain (ins Jalr 0 TEMPORARY 0 (pos 0)) ∷ []) (honest_on far (ins Lw TEMPORARY SPARE 0 (pos 0)) class.Load refl tt)
-    (computes far (ins Add TEMPORARY TEMPORARY SPARE (pos 0)) (Plain (ins Jalr 0 TEMPORARY 0 (pos 0)) ∷ []) refl (honest_end far (ins Jalr 0 TEMPORARY 0 (pos 0)) class.JumpReg refl tt)))) in
+    computes far (ins Add SPARE TEMPORARY DISTANCE (pos 0))
+    (Plain (ins Add SPARE SPARE DISTANCE (pos 0)) ∷ Plain (ins Lw TEMPORARY SPARE 0 (pos 0)) ∷ Plain (ins Add TEMPORARY TEMPORARY SPARE (pos 0))
+    ∷ Plain (ins Jalr 0 TEMPORARY 0 (pos 0)) ∷ []) refl
+    (computes far (ins Add SPARE SPARE DISTANCE (pos 0))
+    (Plain (ins Lw TEMPORARY SPARE 0 (pos 0)) ∷ Plain (ins Add TEMPORARY TEMPORARY SPARE (pos 0)) ∷ Plain (ins Jalr 0 TEMPORARY 0 (pos 0)) ∷ []) refl
+    (plain_then far (ins Lw TEMPORARY SPARE 0 (pos 0))
+    (Plain (ins Add TEMPORARY TEMPORARY SPARE (pos 0)) ∷ Plain (ins Jalr 0 TEMPORARY 0 (pos 0)) ∷ [])
+    (honest_on far (ins Lw TEMPORARY SPARE 0 (pos 0)) class.Load refl tt)
+    (computes far (ins Add TEMPORARY TEMPORARY SPARE (pos 0)) (Plain (ins Jalr 0 TEMPORARY 0 (pos 0)) ∷ []) refl
+    (honest_end far (ins Jalr 0 TEMPORARY 0 (pos 0)) class.JumpReg refl tt)))) in
     let takes : HonestItems far taken =
     computes far (ins Addi TEMPORARY i.rs1 0 i.imm) (Plain (ins Andi TEMPORARY TEMPORARY 0 two) ∷ (links i at ++ look)) refl
     (computes far (ins Andi TEMPORARY TEMPORARY 0 two) (links i at ++ look) refl (honest_items_then far (links i at) look (honest_links far i at) looks)) in
     computes far (ins Addi SIGNATURE (pair i.rs1) 0 i.imm) (Plain (ins Andi SIGNATURE SIGNATURE 0 two) ∷ (guard i.rs1 ++ taken)) refl
-    (computes far (ins Andi SIGNATURE SIGNATURE 0 two) (guard i.rs1 ++ taken) refl (honest_items_then far (guard i.rs1) taken (honest_guard far i.rs1 f.1) takes))
+    (computes far (ins Andi SIGNATURE SIGNATURE 0 two) (guard i.rs1 ++ taken) refl
+    (honest_items_then far (guard i.rs1) taken (honest_guard far i.rs1 f.1) takes))
 honest_as c next far i at e f = absurd f
 
 pub honest_leave : (next : ℕ) (far : Bool) (i : Ins) (at : ℕ) → IsLeft (class_of i.kind) next i at → Honest (λ f. f ≡ far) (left next far i at)
-honest_leave next far i at f = record { honest = λ g e. subst (λ b. HonestItems b (left next far i at)) (sym e) (honest_as (class_of i.kind) next far i at refl f) }
+honest_leave next far i at f =
+    record { honest = λ g e. subst (λ b. HonestItems b (left next far i at)) (sym e) (honest_as (class_of i.kind) next far i at refl f) }

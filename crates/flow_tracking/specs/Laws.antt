@@ -43,11 +43,13 @@ lockstep_leave next far i at f = record {
   locks_here : LockItems far (left next far i at)
   locks_here = ⊎_elim
       (λ e. subst (λ c. LockItems far (left_as c next far i at)) (sym e) (go_items far next))
-      (λ ne. subst (LockItems far) (sym (other_as (class_of i.kind) next far i at ne)) (leave_items (leave_form far) (plain_mirrors_fit far) i at (end_as (class_of i.kind) next i at refl ne f)))
+      (λ ne. subst (LockItems far) (sym (other_as (class_of i.kind) next far i at ne))
+      (leave_items (leave_form far) (plain_mirrors_fit far) i at (end_as (class_of i.kind) next i at refl ne f)))
       (is_compute (class_of i.kind))
 
   lands_here : LandItems far (left next far i at)
   lands_here = ⊎_elim
       (λ e. subst (λ c. LandItems far (left_as c next far i at)) (sym e) (land_go_on far next))
-      (λ ne. subst (LandItems far) (sym (other_as (class_of i.kind) next far i at ne)) (land_leave (leave_form far) (plain_mirrors_fit far) i at (end_as (class_of i.kind) next i at refl ne f)))
+      (λ ne. subst (LandItems far) (sym (other_as (class_of i.kind) next far i at ne))
+      (land_leave (leave_form far) (plain_mirrors_fit far) i at (end_as (class_of i.kind) next i at refl ne f)))
       (is_compute (class_of i.kind))

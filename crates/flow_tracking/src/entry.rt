@@ -33,7 +33,7 @@ pub fn put_check_sign(at: u64, out: &mut Emit) -> Result<(), AllocError>
 impl Pass for Entry {
     ghost use Rattle.std.specs.Prelude.{[]};
     ghost use Rattle.qed_model.specs.Weave.Sequences.{enter};
-    ghost use Rattle.passes.specs.Pass.{Does, same};
+    ghost use Rattle.passes.specs.Pass.{Does, same_state};
     ghost use Rattle.flow_tracking.specs.Leaving.{Enters};
     ghost use Rattle.flow_tracking.specs.Laws.{any, quiet_enter, honest_entry, lockstep_enter};
 
@@ -49,7 +49,7 @@ impl Pass for Entry {
 
     ghost needs = { λ p i at w. Enters w at };
 
-    ghost gives = { λ p i at w. Does w same same 3 };
+    ghost gives = { λ p i at w. Does w same_state same_state 3 };
 
     ghost leaves = { λ p i at w v n z. ⊥ };
 

@@ -9,4 +9,6 @@ pub use Rattle.weave_core.proofs.Lemmas.{quiet_guarded}
 pub use Rattle.weave_core.proofs.Lemmas.{lockstep_guarded}
 
 pub honest_guarded : (s : Bool → Type 0) (qs : List ℕ) (xs : List Item) → AllLow qs → Honest s xs → Honest s (guards qs ++ xs)
-honest_guarded s qs xs low a = let g = honest_guards s qs low in record { honest = λ far suits. honest_items_then far (guards qs) xs (g.honest far suits) (a.honest far suits) }
+honest_guarded s qs xs low a =
+    let g = honest_guards s qs low in
+    record { honest = λ far suits. honest_items_then far (guards qs) xs (g.honest far suits) (a.honest far suits) }

@@ -40,7 +40,7 @@ fn put_guards_of(ins: &Ins, out: &mut Emit) -> Result<(), AllocError>
 impl<A: Pass> Pass for Guarded<A> {
     ghost use Rattle.std.specs.Prelude.{◌≡◌, ◌+◌, ◌++◌, ◌⊎◌, [], length};
     ghost use Rattle.qed_model.specs.Weave.Sequences.{guards};
-    ghost use Rattle.passes.specs.Pass.{Chain, NeedsBoth, Does, same, AllLow, AllSame};
+    ghost use Rattle.passes.specs.Pass.{Chain, NeedsBoth, Does, same_state, AllLow, AllSame};
     ghost use Rattle.passes.specs.Uses.{used};
     ghost use Rattle.guard_insert.specs.Laws.{quiet_guarded, honest_guarded, lockstep_guarded};
 
@@ -54,11 +54,11 @@ impl<A: Pass> Pass for Guarded<A> {
 
     ghost cost = { λ g i. length (used i) + A.cost g.pass i };
 
-    ghost needs = { λ g i at w. NeedsBoth (λ v. AllSame (used i) v.original v.shadow) (Does w same same 0) (A.needs g.pass i at w) };
+    ghost needs = { λ g i at w. NeedsBoth (λ v. AllSame (used i) v.original v.shadow) (Does w same_state same_state 0) (A.needs g.pass i at w) };
 
-    ghost gives = { λ g i at w v. Chain v (length (used i)) (Does w same same 0 v) (A.gives g.pass i at w) };
+    ghost gives = { λ g i at w v. Chain v (length (used i)) (Does w same_state same_state 0 v) (A.gives g.pass i at w) };
 
-    ghost leaves = { λ g i at w v. Chain v (length (used i)) (Does w same same 0 v) (A.leaves g.pass i at w) };
+    ghost leaves = { λ g i at w v. Chain v (length (used i)) (Does w same_state same_state 0 v) (A.leaves g.pass i at w) };
 
     #[tactic(auto, using(passes::specs::Emitted::part_first, passes::specs::Emitted::part_second))]
     fn emit(&self, ins: &Ins, at: u64, out: &mut Emit) -> Result<(), AllocError> {
@@ -67,7 +67,8 @@ impl<A: Pass> Pass for Guarded<A> {
         Ok(())
     }
 
-    ghost quiet = { λ g i at h. quiet_guarded (A.suits g.pass) (used i) (A.items g.pass i at) (A.needs g.pass i at) (A.gives g.pass i at) (A.leaves g.pass i at) (A.cost g.pass i) h.1 (A.quiet g.pass i at h.0) };
+    ghost quiet = { λ g i at h. quiet_guarded (A.suits g.pass) (used i) (A.items g.pass i at)
+        (A.needs g.pass i at) (A.gives g.pass i at) (A.leaves g.pass i at) (A.cost g.pass i) h.1 (A.quiet g.pass i at h.0) };
 
     ghost honest = { λ g i at h. honest_guarded (A.suits g.pass) (used i) (A.items g.pass i at) h.1 (A.honest g.pass i at h.0) };
 

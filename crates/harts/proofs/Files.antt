@@ -8,7 +8,7 @@ use Rattle.std.proofs.lemmas.Map.Keys.{any_passes_from_place}
 use Rattle.machine.specs.Program.{Program, LoadSegment}
 use Rattle.qed_model.specs.Promise.Kept.{is_mapped}
 use Rattle.harts.specs.Harts.{all_segments}
-use Rattle.harts.specs.Together.{IsProgram, AreApart as FilesAreApart}
+use Rattle.harts.specs.Together.{IsProgram, AreDisjoint as FilesAreApart}
 use Rattle.machine.specs.Cells.{has, cell_at, cell_among}
 use Rattle.machine.specs.Apart.{share, FitsMemory, AllFitMemory, AreApart}
 use Rattle.machine.proofs.Lemmas.{has_parts, get_among, shared as share_at}

@@ -12,18 +12,18 @@ use Rattle.machine.specs.Progress.{steps_after}
 use Rattle.machine.specs.Step.{step}
 use Rattle.rv_step.specs.Harts.{HartState}
 use Rattle.rv_step.proofs.Running.{stays_step}
-use Rattle.harts.specs.Harts.{Hart, World, hart_of, made_of, on_hart, state_of}
-use Rattle.harts.specs.HartSteps.{Counted, bare, counted, counted_turn, counted_turns, cycled, steps_turned}
-use Rattle.rv_step.specs.Known.{goes_on}
+use Rattle.harts.specs.Harts.{Hart, HartsWorld, hart_of, made_of, on_hart, state_of}
+use Rattle.harts.specs.HartSteps.{Counted, bare, counted_world, counted_turn, counted_turns, cycled, steps_turned}
+use Rattle.rv_step.specs.Known.{does_step}
 use Rattle.harts.specs.Standing.{AreIdle}
 use Rattle.harts.proofs.Steps.{length_turns, set_same}
 
 -- the hart's number is below the count
-pub below : (hs : List HartState) (m : Memory) (c : Counted) (i : ℕ) → counted hs m ≡ c → i < length c.world.harts → i < length hs
+pub below : (hs : List HartState) (m : Memory) (c : Counted) (i : ℕ) → counted_world hs m ≡ c → i < length c.world.harts → i < length hs
 below hs m c i v l = subst (λ n. i < n) (ap (λ x. length x.world.harts) (sym v) ∙ length-map hs bare) l
 
 -- the hart stands at its number
-pub hart_read : (hs : List HartState) (m : Memory) (c : Counted) (i : ℕ) (h : HartState) → counted hs m ≡ c → i < length c.world.harts → h ≡ get_or hs i h → slice_get hs i ≡ Some h
+pub hart_read : (hs : List HartState) (m : Memory) (c : Counted) (i : ℕ) (h : HartState) → counted_world hs m ≡ c → i < length c.world.harts → h ≡ get_or hs i h → slice_get hs i ≡ Some h
 hart_read hs m c i h v l e = slice_get-get_or hs i h (below hs m c i v l) ∙ ap Some (sym e)
 
 -- ---- turns of a list of harts, again and again
@@ -42,29 +42,29 @@ pub there_still : (c s : Counted) (ds : List ℕ) (k : ℕ) → s ≡ counted_tu
 there_still c s ds k e some all = subst (λ n. slice_index ds (k % length ds) < n) (sym (ap (λ x. length x.world.harts) e ∙ length_turns c (cycled ds k))) (all (k % length ds) (omega (arith, some)))
 
 -- ---- turns of harts that do not go on
-as_many : (o : Outcome) (n : ℕ) → goes_on o ≡ false → steps_after o n ≡ n
+as_many : (o : Outcome) (n : ℕ) → does_step o ≡ false → steps_after o n ≡ n
 as_many Going n h = absurd (cc)
 as_many o n h = refl
 
-idle_world : (w : World) (i : ℕ) (o : Option Hart) → slice_get w.harts i ≡ o → IfSome o (λ h. goes_on h.outcome ≡ false) → made_of o i step w ≡ w
+idle_world : (w : HartsWorld) (i : ℕ) (o : Option Hart) → slice_get w.harts i ≡ o → IfSome o (λ h. does_step h.outcome ≡ false) → made_of o i step w ≡ w
 idle_world w i None e idle = refl
 idle_world w i (Some h) e idle =
     let same = stays_step (state_of h w.memory) idle in
     ap (λ s. record { harts = slice_set w.harts i (hart_of s); memory = s.memory }) same
     ∙ ap (λ hs. record { harts = hs; memory = w.memory }) (set_same w.harts i h e)
 
-idle_steps : (o : Option Hart) (i : ℕ) (ns : List ℕ) → IfSome o (λ h. goes_on h.outcome ≡ false) → steps_turned o i ns ≡ ns
+idle_steps : (o : Option Hart) (i : ℕ) (ns : List ℕ) → IfSome o (λ h. does_step h.outcome ≡ false) → steps_turned o i ns ≡ ns
 idle_steps None i ns idle = refl
 idle_steps (Some h) i ns idle = ap (slice_set ns i) (as_many h.outcome (slice_index ns i) idle) ∙ set-get_or ns i 0
 
 -- a turn of a hart that does not go on changes nothing
-idle_turn : (c : Counted) (i : ℕ) → IfSome (slice_get c.world.harts i) (λ h. goes_on h.outcome ≡ false) → counted_turn i c ≡ c
+idle_turn : (c : Counted) (i : ℕ) → IfSome (slice_get c.world.harts i) (λ h. does_step h.outcome ≡ false) → counted_turn i c ≡ c
 unfolding on_hart
 idle_turn c i idle =
     ap (λ w. record { world = w; steps = steps_turned (slice_get c.world.harts i) i c.steps }) (idle_world c.world i (slice_get c.world.harts i) refl idle)
     ∙ ap (λ ns. record { world = c.world; steps = ns }) (idle_steps (slice_get c.world.harts i) i c.steps idle)
 
-idle_at : (c : Counted) (ds : List ℕ) (k : ℕ) (o : Option Hart) → AreIdle c ds → k < length ds → slice_get c.world.harts (slice_index ds k) ≡ o → IfSome o (λ h. goes_on h.outcome ≡ false)
+idle_at : (c : Counted) (ds : List ℕ) (k : ℕ) (o : Option Hart) → AreIdle c ds → k < length ds → slice_get c.world.harts (slice_index ds k) ≡ o → IfSome o (λ h. does_step h.outcome ≡ false)
 idle_at c ds k None idle l e = tt
 idle_at c ds k (Some h) idle l e = idle.each k h l e
 

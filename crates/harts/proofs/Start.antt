@@ -7,8 +7,8 @@ use Rattle.std.proofs.lemmas.Option.{slice_get-map}
 use Rattle.machine.specs.Program.{Program, cells_of, memory_of, start, zeros}
 use Rattle.qed_model.specs.Promise.Kept.{is_mapped}
 use Rattle.machine.proofs.Lemmas.{cells_of-append, get_memory, find_front, find_skip}
-use Rattle.harts.specs.Harts.{hart_of, all_segments, begin}
-use Rattle.harts.specs.Together.{IsProgram, AreApart}
+use Rattle.harts.specs.Harts.{hart_of, all_segments, begin_harts}
+use Rattle.harts.specs.Together.{IsProgram, AreDisjoint}
 use Rattle.harts.proofs.Turns.{Stand}
 
 -- if no earlier file has the byte, what is found is the file's
@@ -29,7 +29,7 @@ found : (g : Program) (q : ℕ) (b : Bool) → is_mapped g q ≡ b → is_some (
 found g q b e = ap is_some (sym (get_memory g.segments q)) ∙ e
 
 -- the memory of all files has the cells of each
-pub start_cells : (gs : List Program) → AreApart gs → (i : ℕ) (g : Program) → IsProgram gs i g → (q : ℕ) → is_mapped g q ≡ true → get (memory_of (all_segments gs)) q ≡ get (memory_of g.segments) q
+pub start_cells : (gs : List Program) → AreDisjoint gs → (i : ℕ) (g : Program) → IsProgram gs i g → (q : ℕ) → is_mapped g q ≡ true → get (memory_of (all_segments gs)) q ≡ get (memory_of g.segments) q
 start_cells gs files i g e q o =
     get_memory (all_segments gs) q
     ∙ find_mine gs i g q e (found g q true o) (λ j h n k. found h q false (other (is_mapped h q) j h n k refl))
@@ -39,7 +39,7 @@ start_cells gs files i g e q o =
       other false j h n k m = m
 
 -- each hart stands as its file starts
-pub stand_first : (gs : List Program) → AreApart gs → Stand gs (begin gs) (λ i g. start g zeros)
+pub stand_first : (gs : List Program) → AreDisjoint gs → Stand gs (begin_harts gs) (λ i g. start g zeros)
 stand_first gs files = record {
   harts = λ i g e. slice_get-map (λ g. hart_of (start g zeros)) gs i ∙ ap (option_map (λ g. hart_of (start g zeros))) e;
   none = λ i e. slice_get-map (λ g. hart_of (start g zeros)) gs i ∙ ap (option_map (λ g. hart_of (start g zeros))) e;

@@ -7,15 +7,15 @@ use Rattle.machine.specs.Memory.{Memory}
 use Rattle.machine.specs.Program.{LoadSegment, memory_of}
 use Rattle.machine.specs.Loading.{loaded_file, ElfFile}
 use Rattle.rv_step.specs.Harts.{HartState}
-use Rattle.harts.specs.Harts.{all_segments, begin}
-use Rattle.harts.specs.HartSteps.{bare, counted, counted_start}
+use Rattle.harts.specs.Harts.{all_segments, begin_harts}
+use Rattle.harts.specs.HartSteps.{bare, counted_world, counted_start}
 use Rattle.harts.specs.Shared.{AreSound, AreUnshared}
 use Rattle.harts.specs.Played.{programs, started}
 use Rattle.harts.proofs.Files.{none_shared}
 use Rattle.harts.proofs.Worlds.{same_counted}
 
 -- the harts that the files start
-harts_started : (files : List ElfFile) → map bare (map started files) ≡ (begin (programs files)).harts
+harts_started : (files : List ElfFile) → map bare (map started files) ≡ (begin_harts (programs files)).harts
 harts_started [] = refl
 harts_started (f ∷ files) = ap (λ hs. bare (started f) ∷ hs) (harts_started files)
 
@@ -25,9 +25,9 @@ steps_started [] = refl
 steps_started (f ∷ files) = ap (λ ns. 0 ∷ ns) (steps_started files)
 
 -- the world of these harts, and of the memory of all segments
-pub world_started : (files : List ElfFile) (hs : List HartState) (m : Memory) (ss : List LoadSegment) → hs ≡ map started files → m ≡ memory_of ss → ss ≡ all_segments (programs files) → counted hs m ≡ counted_start (programs files)
+pub world_started : (files : List ElfFile) (hs : List HartState) (m : Memory) (ss : List LoadSegment) → hs ≡ map started files → m ≡ memory_of ss → ss ≡ all_segments (programs files) → counted_world hs m ≡ counted_start (programs files)
 world_started files hs m ss h is e =
-    same_counted (counted hs m) (counted_start (programs files))
+    same_counted (counted_world hs m) (counted_start (programs files))
     (ap (λ x. map bare x) h ∙ harts_started files)
     (is ∙ ap memory_of e)
     (ap (λ x. map (λ y. y.steps) x) h ∙ steps_started files)

@@ -9,10 +9,10 @@ use Rattle.qed_model.specs.declared.change.Change.{Change}
 use Rattle.machine.specs.declared.place.Place.{Place}
 use Rattle.machine.specs.Struck.{struck}
 use Rattle.machine.specs.Step.{State, step}
-use Rattle.machine.specs.Progress.{steps_after, advanced, progress, begun}
+use Rattle.machine.specs.Progress.{steps_after, advanced, progress, first_state}
 use Rattle.qed_model.specs.Promise.Changed.{with_changes, changed_run}
 use Rattle.machine.specs.Program.{Program, start, zeros}
-use Rattle.harts.specs.Harts.{state_of, Hart, World, hart_of, made_of, on_hart, begin, hart_turns, with_first, count, turned, world_after}
+use Rattle.harts.specs.Harts.{state_of, Hart, HartsWorld, hart_of, made_of, on_hart, begin_harts, hart_turns, with_first, count, turned, world_after}
 use Rattle.harts.specs.Together.{IsProgram, own_run, AreAlone}
 use Rattle.harts.specs.HartSteps.{counted_strike, counted_start, Counted, steps_turned, counted_turns, steps_after_turns, counted_after, own_steps, ShowsCounted}
 use Rattle.harts.proofs.Turns.{set_here, set_there}
@@ -82,16 +82,16 @@ set_same (y ∷ xs) zero x e = let is : y ≡ x = cc in ap (λ z. z ∷ xs) (sym
 set_same (y ∷ xs) (suc i) x e = ap (λ zs. y ∷ zs) (set_same xs i x e)
 
 -- a list without changes changes nothing
-made_same : (o : Option Hart) (i n : ℕ) (w : World) → slice_get w.harts i ≡ o → made_of o i (with_changes [] n) w ≡ w
+made_same : (o : Option Hart) (i n : ℕ) (w : HartsWorld) → slice_get w.harts i ≡ o → made_of o i (with_changes [] n) w ≡ w
 unfolding with_changes
 made_same None i n w e = refl
 made_same (Some h) i n w e = ap (λ hs. record { harts = hs; memory = w.memory }) (set_same w.harts i h e)
 
-nothing_due : (i n : ℕ) (w : World) → on_hart i (with_changes [] n) w ≡ w
+nothing_due : (i n : ℕ) (w : HartsWorld) → on_hart i (with_changes [] n) w ≡ w
 unfolding on_hart
 nothing_due i n w = made_same (slice_get w.harts i) i n w refl
 
-nothing_first : (n : ℕ) (w : World) → with_first (λ i. []) n w ≡ w
+nothing_first : (n : ℕ) (w : HartsWorld) → with_first (λ i. []) n w ≡ w
 unfolding with_first
 nothing_first zero w = refl
 nothing_first (suc n) w = nothing_due n 0 (with_first (λ i. []) n w) ∙ nothing_first n w
@@ -99,7 +99,7 @@ nothing_first (suc n) w = nothing_due n 0 (with_first (λ i. []) n w) ∙ nothin
 -- the world of the turns, without their counts
 pub same_world : (gs : List Program) (ts : List ℕ) → (counted_turns (counted_start gs) ts).world ≡ world_after gs (λ i. []) ts
 unfolding counted_turns world_after
-same_world gs [] = sym (nothing_first (count gs) (begin gs))
+same_world gs [] = sym (nothing_first (count gs) (begin_harts gs))
 same_world gs (t ∷ ts) = ap (turned t) (same_world gs ts) ∙ sym (nothing_due t (suc (hart_turns ts t)) (turned t (world_after gs (λ i. []) ts)))
 
 -- the steps of the turns
@@ -109,12 +109,12 @@ same_steps gs [] = refl
 same_steps gs (t ∷ ts) = ap (λ w. steps_turned (slice_get w.harts t) t (counted_turns (counted_start gs) ts).steps) (same_world gs ts) ∙ ap (steps_turned (slice_get (world_after gs (λ i. []) ts).harts t) t) (same_steps gs ts)
 
 -- a run alone without changes, with its steps
-alone_progress : (s : State) (n : ℕ) → progress (begun s) n ≡ record { state = changed_run s [] n; steps = own_steps s [] n }
+alone_progress : (s : State) (n : ℕ) → progress (first_state s) n ≡ record { state = changed_run s [] n; steps = own_steps s [] n }
 unfolding changed_run with_changes own_steps advanced progress
 alone_progress s zero = refl
-alone_progress s (suc n) = progress_last (begun s) n ∙ ap advanced (alone_progress s n)
+alone_progress s (suc n) = progress_last (first_state s) n ∙ ap advanced (alone_progress s n)
 
-pub turns_run : (gs : List Program) (ts : List ℕ) → AreAlone gs (λ i. []) ts → (i : ℕ) (g : Program) → IsProgram gs i g → ShowsCounted g i (counted_turns (counted_start gs) ts) (progress (begun (start g zeros)) (hart_turns ts i)).state (progress (begun (start g zeros)) (hart_turns ts i)).steps
+pub turns_run : (gs : List Program) (ts : List ℕ) → AreAlone gs (λ i. []) ts → (i : ℕ) (g : Program) → IsProgram gs i g → ShowsCounted g i (counted_turns (counted_start gs) ts) (progress (first_state (start g zeros)) (hart_turns ts i)).state (progress (first_state (start g zeros)) (hart_turns ts i)).steps
 turns_run gs ts a i g e =
     let c = counted_together gs (λ i. []) ts a i g e in
     let p = alone_progress (start g zeros) (hart_turns ts i) in
@@ -127,12 +127,12 @@ turns_run gs ts a i g e =
     }
 
 -- ---- the number of harts
-length_made : (o : Option Hart) (i : ℕ) (f : State → State) (w : World) → length (made_of o i f w).harts ≡ length w.harts
+length_made : (o : Option Hart) (i : ℕ) (f : State → State) (w : HartsWorld) → length (made_of o i f w).harts ≡ length w.harts
 length_made None i f w = refl
 length_made (Some h) i f w = length-set w.harts i (hart_of (f (state_of h w.memory)))
 
 -- a turn keeps the number of harts
-pub length_turned : (i : ℕ) (w : World) → length (turned i w).harts ≡ length w.harts
+pub length_turned : (i : ℕ) (w : HartsWorld) → length (turned i w).harts ≡ length w.harts
 unfolding on_hart
 length_turned i w = length_made (slice_get w.harts i) i step w
 

@@ -11,8 +11,8 @@ use Rattle.qed_model.specs.Promise.Changed.{changed, changed_as, with_changes, c
 use Rattle.machine.specs.Program.{Program, start, zeros}
 use Rattle.qed_model.specs.Promise.Kept.{is_trapped, NotTrapped}
 use Rattle.qed_model.proofs.Lemmas.{struck_outcome}
-use Rattle.harts.specs.Harts.{begin, hart_turns, with_first, count, turned, world_after}
-use Rattle.harts.specs.Together.{IsProgram, own_run, AreAlone, Shows}
+use Rattle.harts.specs.Harts.{begin_harts, hart_turns, with_first, count, turned, world_after}
+use Rattle.harts.specs.Together.{IsProgram, own_run, AreAlone, ShowsHart}
 use Rattle.harts.proofs.Beside.{does_step, does_changes}
 use Rattle.harts.proofs.Turns.{Stand, stand_as, stand_then}
 use Rattle.harts.proofs.Start.{stand_first}
@@ -84,13 +84,13 @@ module _ (gs : List Program) (cs : ℕ → List Change) where
   firsts : ℕ → ℕ → Program → State
   firsts n i g = cond (nat_lt i n) (with_changes (cs i) 0 (start g zeros)) (start g zeros)
 
-  stand_firsts : (n : ℕ) (a : AreAlone gs cs []) → Stand gs (with_first cs n (begin gs)) (firsts n)
+  stand_firsts : (n : ℕ) (a : AreAlone gs cs []) → Stand gs (with_first cs n (begin_harts gs)) (firsts n)
   unfolding with_first firsts
-  stand_firsts zero a = stand_as gs (begin gs) (λ i g. start g zeros) (firsts 0) (λ i g e. ap (λ b. cond b (with_changes (cs i) 0 (start g zeros)) (start g zeros)) (none i)) (stand_first gs a.files) where
+  stand_firsts zero a = stand_as gs (begin_harts gs) (λ i g. start g zeros) (firsts 0) (λ i g e. ap (λ b. cond b (with_changes (cs i) 0 (start g zeros)) (start g zeros)) (none i)) (stand_first gs a.files) where
     none : (i : ℕ) → nat_lt i 0 ≡ false
     none i = grind (arith, nat_tests)
   stand_firsts (suc n) a =
-      stand_then gs a.files (with_first cs n (begin gs)) (firsts n) (stand_firsts n a) n (with_changes (cs n) 0)
+      stand_then gs a.files (with_first cs n (begin_harts gs)) (firsts n) (stand_firsts n a) n (with_changes (cs n) 0)
       (λ g m e h. does_changes g (cs n) 0 (firsts n n g) m (a.words n g e) h)
       (firsts (suc n))
       (λ g e. ap (λ b. cond b (with_changes (cs n) 0 (start g zeros)) (start g zeros)) (here n) ∙ ap (λ b. with_changes (cs n) 0 (cond b (with_changes (cs n) 0 (start g zeros)) (start g zeros))) (sym (not_here n)))
@@ -117,7 +117,7 @@ module _ (gs : List Program) (cs : ℕ → List Change) where
   stand_begun : AreAlone gs cs [] → Stand gs (world_after gs cs []) (own_run cs [])
   unfolding world_after changed_run hart_turns firsts
   stand_begun a =
-      stand_as gs (with_first cs (count gs) (begin gs)) (firsts gs cs (count gs)) (own_run cs [])
+      stand_as gs (with_first cs (count gs) (begin_harts gs)) (firsts gs cs (count gs)) (own_run cs [])
       (λ i g e. ap (λ b. cond b (with_changes (cs i) 0 (start g zeros)) (start g zeros)) (sym (lt-ltb i (count gs) (below_count gs i g e))))
       (stand_firsts gs cs (count gs) a)
 
@@ -153,5 +153,5 @@ module _ (gs : List Program) (cs : ℕ → List Change) where
   stand_after (t ∷ ts) a = stand_turned t ts a (stand_after ts (earlier gs cs t ts a))
 
 -- each hart stands as its run alone does
-pub together : (gs : List Program) (cs : ℕ → List Change) (ts : List ℕ) → AreAlone gs cs ts → (i : ℕ) (g : Program) → IsProgram gs i g → Shows g i (world_after gs cs ts) (own_run cs ts i g)
+pub together : (gs : List Program) (cs : ℕ → List Change) (ts : List ℕ) → AreAlone gs cs ts → (i : ℕ) (g : Program) → IsProgram gs i g → ShowsHart g i (world_after gs cs ts) (own_run cs ts i g)
 together gs cs ts a i g e = let s = stand_after gs cs ts a in record { hart = s.harts i g e; bytes = (s.holds i g e).cells }

@@ -6,8 +6,8 @@ use Rattle.machine.specs.Memory.{Memory, get}
 use Rattle.machine.specs.Step.{State}
 use Rattle.machine.specs.Program.{Program}
 use Rattle.qed_model.specs.Promise.Kept.{is_mapped}
-use Rattle.harts.specs.Harts.{World, hart_of, made_of, on_hart}
-use Rattle.harts.specs.Together.{IsProgram, AreApart}
+use Rattle.harts.specs.Harts.{HartsWorld, hart_of, made_of, on_hart}
+use Rattle.harts.specs.Together.{IsProgram, AreDisjoint}
 use Rattle.harts.proofs.Beside.{beside, Holds, Does}
 
 -- ---- lists
@@ -27,30 +27,30 @@ set_there (z ∷ xs) (suc t) (suc i) x n = set_there xs t i x (λ e. n (ap suc e
 
 -- ---- one hart
 -- the effect on a hart that is that of a state
-pub on_some : (w : World) (t : ℕ) (f : State → State) (s : State) → slice_get w.harts t ≡ Some (hart_of s) → on_hart t f w ≡ record { harts = slice_set w.harts t (hart_of (f (beside w.memory s))); memory = (f (beside w.memory s)).memory }
+pub on_some : (w : HartsWorld) (t : ℕ) (f : State → State) (s : State) → slice_get w.harts t ≡ Some (hart_of s) → on_hart t f w ≡ record { harts = slice_set w.harts t (hart_of (f (beside w.memory s))); memory = (f (beside w.memory s)).memory }
 unfolding on_hart
 on_some w t f s e = ap (λ o. made_of o t f w) e
 
 -- the effect if the world lacks the hart
-pub on_none : (w : World) (t : ℕ) (f : State → State) → slice_get w.harts t ≡ None → on_hart t f w ≡ w
+pub on_none : (w : HartsWorld) (t : ℕ) (f : State → State) → slice_get w.harts t ≡ None → on_hart t f w ≡ w
 unfolding on_hart
 on_none w t f e = ap (λ o. made_of o t f w) e
 
 -- each hart of the world is that of its file's state, and the memory has the file's cells as that state has them
-pub record Stand (gs : List Program) (w : World) (states : ℕ → Program → State) : Type 0 where
+pub record Stand (gs : List Program) (w : HartsWorld) (states : ℕ → Program → State) : Type 0 where
   pub harts : (i : ℕ) (g : Program) → IsProgram gs i g → slice_get w.harts i ≡ Some (hart_of (states i g))
   pub none : (i : ℕ) → slice_get gs i ≡ None → slice_get w.harts i ≡ None
   pub holds : (i : ℕ) (g : Program) → IsProgram gs i g → Holds g (states i g).memory w.memory
 
 -- harts stand at equal states
-pub stand_as : (gs : List Program) (w : World) (before after : ℕ → Program → State) → ((i : ℕ) (g : Program) → IsProgram gs i g → after i g ≡ before i g) → Stand gs w before → Stand gs w after
+pub stand_as : (gs : List Program) (w : HartsWorld) (before after : ℕ → Program → State) → ((i : ℕ) (g : Program) → IsProgram gs i g → after i g ≡ before i g) → Stand gs w before → Stand gs w after
 stand_as gs w before after same s = record {
   harts = λ i g e. s.harts i g e ∙ ap (λ x. Some (hart_of x)) (sym (same i g e));
   none = s.none;
   holds = λ i g e. subst (λ x. Holds g x.memory w.memory) (sym (same i g e)) (s.holds i g e);
 }
 
-module _ (gs : List Program) (files : AreApart gs) (w : World) (before : ℕ → Program → State) (stand : Stand gs w before) (t : ℕ) (f : State → State) (does : (g : Program) (m : Memory) → IsProgram gs t g → Holds g (before t g).memory m → Does g m (f (before t g)) (f (beside m (before t g)))) where
+module _ (gs : List Program) (files : AreDisjoint gs) (w : HartsWorld) (before : ℕ → Program → State) (stand : Stand gs w before) (t : ℕ) (f : State → State) (does : (g : Program) (m : Memory) → IsProgram gs t g → Holds g (before t g).memory m → Does g m (f (before t g)) (f (beside m (before t g)))) where
   -- the effect on the hart
   made : (g : Program) → IsProgram gs t g → Does g w.memory (f (before t g)) (f (beside w.memory (before t g)))
   made g e = does g w.memory e (stand.holds t g e)

@@ -11,12 +11,12 @@ use Rattle.machine.specs.Struck.{struck}
 use Rattle.machine.specs.Step.{step}
 use Rattle.machine.specs.Program.{Program, cells_of}
 use Rattle.harts.specs.Harts.{Hart, hart_of, state_of, all_segments}
-use Rattle.harts.specs.Together.{AreApart}
+use Rattle.harts.specs.Together.{AreDisjoint}
 use Rattle.rv_step.specs.Harts.{HartState, with_memory}
 use Rattle.rv_step.specs.Known.{struck_progress}
-use Rattle.harts.specs.HartSteps.{Counted, bare, counted, counted_turn, counted_strike, steps_turned}
+use Rattle.harts.specs.HartSteps.{Counted, bare, counted_world, counted_turn, counted_strike, steps_turned}
 use Rattle.machine.proofs.Lemmas.{get_memory, find_skip, cells_of-append}
-use Rattle.harts.specs.Starts.{IsOfSome, IsUnion, IsTurned, IsStruck, WorldLaws}
+use Rattle.harts.specs.Starts.{IsOfSome, IsUnion, IsTurned, IsHartStruck, WorldLaws}
 use Rattle.std.proofs.lemmas.Option.{slice_get-map}
 use Rattle.std.proofs.lemmas.List.{map-set}
 use Rattle.machine.specs.declared.place.Place.TheVariants.{Word}
@@ -44,7 +44,7 @@ of_some (g ∷ gs) q e =
       | false ↦ λ x. of_rest g gs q (of_some gs q (ap is_some (sym (find_skip (cells_of g.segments) (cells_of (all_segments gs)) q x) ∙ sym (ap (find nat_cmp q) (cells_of-append g.segments (all_segments gs)))) ∙ e))
     ] refl
 
-union : (gs : List Program) → AreApart gs → IsUnion gs
+union : (gs : List Program) → AreDisjoint gs → IsUnion gs
 union gs files = record {
   cells = λ i g e q o. start_cells gs files i g e q o;
   only = λ q e. of_some gs q (ap is_some (sym (get_memory (all_segments gs) q)) ∙ e);
@@ -60,7 +60,7 @@ turned_is c i h e =
       steps = ap (λ o. steps_turned o i c.steps) e;
     }
 
-struck_is : (c : Counted) (i : ℕ) (p : Place) (x : ℕ) (h : Hart) → slice_get c.world.harts i ≡ Some h → IsStruck c i p x h
+struck_is : (c : Counted) (i : ℕ) (p : Place) (x : ℕ) (h : Hart) → slice_get c.world.harts i ≡ Some h → IsHartStruck c i p x h
 struck_is c i p x h e =
     let w = on_some c.world i (struck p x) (state_of h c.world.memory) e in
     record { harts = ap (λ y. y.harts) w; memory = ap (λ y. y.memory) w }
@@ -79,27 +79,27 @@ module _ (hs : List HartState) (m n : Memory) (i : ℕ) (h k : HartState) (e : s
   steps_there = slice_get-map (λ h. h.steps) hs i ∙ ap (option_map (λ h. h.steps)) e
 
   -- a turn of hart i
-  pub turn_counted : with_memory k n ≡ advanced (with_memory h m) → counted (slice_set hs i k) n ≡ counted_turn i (counted hs m)
+  pub turn_counted : with_memory k n ≡ advanced (with_memory h m) → counted_world (slice_set hs i k) n ≡ counted_turn i (counted_world hs m)
   unfolding advanced
   turn_counted is =
-      let t = turned_is (counted hs m) i (bare h) hart_there in
+      let t = turned_is (counted_world hs m) i (bare h) hart_there in
       let was : slice_index (map (λ h. h.steps) hs) i ≡ h.steps = index_is (map (λ h. h.steps) hs) i h.steps steps_there in
-      same_counted (counted (slice_set hs i k) n) (counted_turn i (counted hs m))
+      same_counted (counted_world (slice_set hs i k) n) (counted_turn i (counted_world hs m))
       (map-set bare hs i k ∙ ap (λ p. slice_set (map bare hs) i (hart_of p.state)) is ∙ sym t.harts)
       (ap (λ p. p.state.memory) is ∙ sym t.memory)
       (map-set (λ h. h.steps) hs i k ∙ ap (λ p. slice_set (map (λ h. h.steps) hs) i p.steps) is ∙ ap (λ x. slice_set (map (λ h. h.steps) hs) i (steps_after h.outcome x)) (sym was) ∙ sym t.steps)
 
   -- a change of hart i
-  pub strike_counted : (p : Place) (x : ℕ) → with_memory k n ≡ struck_progress p x (with_memory h m) → counted (slice_set hs i k) n ≡ counted_strike i p x (counted hs m)
+  pub strike_counted : (p : Place) (x : ℕ) → with_memory k n ≡ struck_progress p x (with_memory h m) → counted_world (slice_set hs i k) n ≡ counted_strike i p x (counted_world hs m)
   strike_counted p x is =
-      let t = struck_is (counted hs m) i p x (bare h) hart_there in
-      same_counted (counted (slice_set hs i k) n) (counted_strike i p x (counted hs m))
+      let t = struck_is (counted_world hs m) i p x (bare h) hart_there in
+      same_counted (counted_world (slice_set hs i k) n) (counted_strike i p x (counted_world hs m))
       (map-set bare hs i k ∙ ap (λ q. slice_set (map bare hs) i (hart_of q.state)) is ∙ sym t.harts)
       (ap (λ q. q.state.memory) is ∙ sym t.memory)
       (map-set (λ h. h.steps) hs i k ∙ ap (λ q. slice_set (map (λ h. h.steps) hs) i q.steps) is ∙ set_same (map (λ h. h.steps) hs) i h.steps steps_there)
 
   -- the outcome of the hart afterwards
-  pub outcome_after : (o : Outcome) → o ≡ k.outcome → option_map (λ h. h.outcome) (slice_get (counted (slice_set hs i k) n).world.harts i) ≡ Some o
+  pub outcome_after : (o : Outcome) → o ≡ k.outcome → option_map (λ h. h.outcome) (slice_get (counted_world (slice_set hs i k) n).world.harts i) ≡ Some o
   outcome_after o is = ap (option_map (λ h. h.outcome)) (slice_get-map bare (slice_set hs i k) i ∙ ap (option_map bare) (set_here hs i k h e)) ∙ ap Some (sym is)
 
 -- there is a hart of each number below their count
@@ -109,11 +109,11 @@ hart_at (h ∷ hs) zero l = (h, refl)
 hart_at (h ∷ hs) (suc i) l = hart_at hs i (omega arith)
 
 -- a change of a word leaves the harts
-pub strike_word : (hs : List HartState) (m n : Memory) (i a x : ℕ) → i < length hs → n ≡ put m a 8 x → counted hs n ≡ counted_strike i (Word a) x (counted hs m)
+pub strike_word : (hs : List HartState) (m n : Memory) (i a x : ℕ) → i < length hs → n ≡ put m a 8 x → counted_world hs n ≡ counted_strike i (Word a) x (counted_world hs m)
 unfolding struck
 strike_word hs m n i a x l is =
     let h = hart_at hs i l in
-    ap (λ ks. counted ks n) (sym (set_same hs i h.0 h.1)) ∙ strike_counted hs m n i h.0 h.0 h.1 (Word a) x (ap (λ y. with_memory h.0 y) is)
+    ap (λ ks. counted_world ks n) (sym (set_same hs i h.0 h.1)) ∙ strike_counted hs m n i h.0 h.0 h.1 (Word a) x (ap (λ y. with_memory h.0 y) is)
 
 pub world_laws : WorldLaws
 world_laws = record { starts = union; turns = turned_is; strikes = struck_is }

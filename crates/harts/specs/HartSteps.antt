@@ -5,18 +5,18 @@ use Rattle.qed_model.specs.declared.change.Change.{Change}
 use Rattle.machine.specs.Memory.{Memory}
 use Rattle.machine.specs.Struck.{struck}
 use Rattle.qed_model.specs.Promise.Changed.{changed_run}
-use Rattle.machine.specs.Progress.{steps_after, begun, progress}
+use Rattle.machine.specs.Progress.{steps_after, first_state, progress}
 use Rattle.machine.specs.Step.{State}
 use Rattle.machine.specs.Program.{Program, start, zeros}
 use Rattle.rv_step.specs.Harts.{HartState}
-use Rattle.harts.specs.Harts.{Hart, World, state_of, begin, turned, on_hart, hart_turns, world_after}
+use Rattle.harts.specs.Harts.{Hart, HartsWorld, state_of, begin_harts, turned, on_hart, hart_turns, world_after}
 use Rattle.qed_model.specs.Promise.Kept.{NotTrapped, Kept}
-use Rattle.harts.specs.Together.{IsProgram, AreAlone, Shows, own_run, HartKept}
+use Rattle.harts.specs.Together.{IsProgram, AreAlone, ShowsHart, own_run, HartKept}
 
 -- ---- all harts
 -- a world, and the steps of each hart
 pub record Counted : Type 0 where
-  pub world : World
+  pub world : HartsWorld
   pub steps : List ℕ
 
 -- a hart without its steps
@@ -24,12 +24,12 @@ abbrev pub bare : HartState → Hart
 bare h = record { regs = h.regs; pc = h.pc; ranges = h.ranges; outcome = h.outcome }
 
 -- a world of harts with their steps, and a memory
-abbrev pub counted : List HartState → Memory → Counted
-counted hs m = record { world = record { harts = map bare hs; memory = m }; steps = map (λ h. h.steps) hs }
+abbrev pub counted_world : List HartState → Memory → Counted
+counted_world hs m = record { world = record { harts = map bare hs; memory = m }; steps = map (λ h. h.steps) hs }
 
 -- the world before the first turn
 abbrev pub counted_start : List Program → Counted
-counted_start gs = record { world = begin gs; steps = map (λ g. 0) gs }
+counted_start gs = record { world = begin_harts gs; steps = map (λ g. 0) gs }
 
 -- the steps after a turn of hart number i
 abbrev pub steps_turned : Option Hart → ℕ → List ℕ → List ℕ
@@ -73,16 +73,20 @@ own_steps s cs (suc n) = steps_after (changed_run s cs n).outcome (own_steps s c
 -- ---- what is promised
 -- a hart stands as a state does, and has made n steps
 pub record ShowsCounted (g : Program) (i : ℕ) (c : Counted) (s : State) (n : ℕ) : Type 0 where
-  pub shows : Shows g i c.world s
+  pub shows : ShowsHart g i c.world s
   pub steps : slice_get c.steps i ≡ Some n
 
 -- after any schedule each hart stands as its run alone does, with as many steps
 abbrev pub CountedTogether : Type 0
-CountedTogether = (gs : List Program) (cs : ℕ → List Change) (ts : List ℕ) → AreAlone gs cs ts → (i : ℕ) (g : Program) → IsProgram gs i g → ShowsCounted g i (counted_after gs cs ts) (own_run cs ts i g) (own_steps (start g zeros) (cs i) (hart_turns ts i))
+CountedTogether = (gs : List Program) (cs : ℕ → List Change) (ts : List ℕ) → AreAlone gs cs ts → (i : ℕ) (g : Program) → IsProgram gs i g
+    → ShowsCounted g i (counted_after gs cs ts) (own_run cs ts i g) (own_steps (start g zeros) (cs i) (hart_turns ts i))
 
 -- without changes each hart stands as a run of its file does, with as many steps
 abbrev pub TurnsRun : Type 0
-TurnsRun = (gs : List Program) (ts : List ℕ) → AreAlone gs (λ i. []) ts → (i : ℕ) (g : Program) → IsProgram gs i g → ShowsCounted g i (counted_turns (counted_start gs) ts) (progress (begun (start g zeros)) (hart_turns ts i)).state (progress (begun (start g zeros)) (hart_turns ts i)).steps
+TurnsRun = (gs : List Program) (ts : List ℕ) → AreAlone gs (λ i. []) ts
+    → (i : ℕ) (g : Program) → IsProgram gs i g
+    → ShowsCounted g i (counted_turns (counted_start gs) ts)
+    (progress (first_state (start g zeros)) (hart_turns ts i)).state (progress (first_state (start g zeros)) (hart_turns ts i)).steps
 
 -- ---- what is promised of a file
 -- the state of hart i after turns without changes, k of them its own
@@ -97,4 +101,5 @@ pub record StandsAfter (gs : List Program) (ts : List ℕ) (i k : ℕ) (u : Stat
 abbrev pub TurnsKeep : List Program → List ℕ → Type 0
 TurnsKeep gs ts =
     ((i : ℕ) (g : Program) → IsProgram gs i g → NotTrapped (own_run (λ i. []) ts i g))
-    → (i : ℕ) (f g : Program) (reached : ℕ → Bool) (first bound : ℕ) → IsProgram gs i g → Kept f g reached first bound → HartKept f reached first bound (StandsAfter gs ts i)
+    → (i : ℕ) (f g : Program) (reached : ℕ → Bool) (first bound : ℕ)
+    → IsProgram gs i g → Kept f g reached first bound → HartKept f reached first bound (StandsAfter gs ts i)

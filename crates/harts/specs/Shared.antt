@@ -3,7 +3,7 @@ use Rattle.std.specs.Prelude.{ℕ, List, [], ◌∷◌}
 use Rattle.machine.specs.Program.{Program}
 use Rattle.mem_image.specs.Overlap.{files_share, IsPair, IsLeastPair}
 use Rattle.harts.specs.Harts.{all_segments}
-use Rattle.harts.specs.Together.{AreApart as FilesAreApart}
+use Rattle.harts.specs.Together.{AreDisjoint as FilesAreApart}
 use Rattle.machine.specs.Apart.{AllFitMemory, AreApart}
 use Rattle.harts.specs.declared.error.HartsError.{HartsError}
 use Rattle.harts.specs.declared.error.HartsError.TheVariants.{Shared, Memory}
@@ -21,9 +21,9 @@ abbrev pub AreUnshared : List Program → Type 0
 AreUnshared gs = (i j : ℕ) → IsShared gs i j → ⊥
 
 -- why there cannot be a world: the least pair that shares a byte, or else a lack of memory
-abbrev pub Explains : List Program → HartsError → Type 0
-Explains gs (Shared i j) = IsLeastShared gs i j
-Explains gs Memory = AreUnshared gs
+abbrev pub ExplainsHarts : List Program → HartsError → Type 0
+ExplainsHarts gs (Shared i j) = IsLeastShared gs i j
+ExplainsHarts gs Memory = AreUnshared gs
 
 -- the segments of each file fit, and no two of one file share a byte
 abbrev pub AreSound : List Program → Type 0

@@ -4,7 +4,7 @@ use Rattle.std.specs.List.{list_any}
 use Rattle.machine.specs.declared.outcome.Outcome.{Outcome}
 use Rattle.machine.specs.declared.outcome.Outcome.TheVariants.{Fired}
 use Rattle.rv_step.specs.Harts.{HartState}
-use Rattle.rv_step.specs.Known.{goes_on}
+use Rattle.rv_step.specs.Known.{does_step}
 use Rattle.harts.specs.Harts.{Hart}
 use Rattle.harts.specs.HartSteps.{Counted}
 
@@ -22,4 +22,4 @@ stands test hs = list_any (λ h. test h.outcome) hs
 
 -- none of the harts that a list names goes on
 pub record AreIdle (c : Counted) (harts : List ℕ) : Type 0 where
-  pub each : (k : ℕ) (h : Hart) → k < length harts → slice_get c.world.harts (slice_index harts k) ≡ Some h → goes_on h.outcome ≡ false
+  pub each : (k : ℕ) (h : Hart) → k < length harts → slice_get c.world.harts (slice_index harts k) ≡ Some h → does_step h.outcome ≡ false

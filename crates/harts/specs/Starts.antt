@@ -7,8 +7,8 @@ use Rattle.machine.specs.Progress.{steps_after}
 use Rattle.machine.specs.Step.{step}
 use Rattle.machine.specs.Program.{Program, memory_of}
 use Rattle.qed_model.specs.Promise.Kept.{is_mapped}
-use Rattle.harts.specs.Harts.{Hart, state_of, hart_of, begin}
-use Rattle.harts.specs.Together.{IsProgram, AreApart}
+use Rattle.harts.specs.Harts.{Hart, state_of, hart_of, begin_harts}
+use Rattle.harts.specs.Together.{IsProgram, AreDisjoint}
 use Rattle.harts.specs.HartSteps.{Counted, counted_turn, counted_strike}
 
 -- some file maps the address
@@ -20,8 +20,8 @@ pub record IsOfSome (gs : List Program) (q : ℕ) : Type 0 where
 
 -- the memory is the union of those that the files start from
 pub record IsUnion (gs : List Program) : Type 0 where
-  pub cells : (i : ℕ) (g : Program) → IsProgram gs i g → (q : ℕ) → is_mapped g q ≡ true → get (begin gs).memory q ≡ get (memory_of g.segments) q
-  pub only : (q : ℕ) → is_some (get (begin gs).memory q) ≡ true → IsOfSome gs q
+  pub cells : (i : ℕ) (g : Program) → IsProgram gs i g → (q : ℕ) → is_mapped g q ≡ true → get (begin_harts gs).memory q ≡ get (memory_of g.segments) q
+  pub only : (q : ℕ) → is_some (get (begin_harts gs).memory q) ≡ true → IsOfSome gs q
 
 -- a turn of an existing hart
 pub record IsTurned (c : Counted) (i : ℕ) (h : Hart) : Type 0 where
@@ -30,12 +30,12 @@ pub record IsTurned (c : Counted) (i : ℕ) (h : Hart) : Type 0 where
   pub steps : (counted_turn i c).steps ≡ slice_set c.steps i (steps_after h.outcome (slice_index c.steps i))
 
 -- a change of an existing hart
-pub record IsStruck (c : Counted) (i : ℕ) (p : Place) (x : ℕ) (h : Hart) : Type 0 where
+pub record IsHartStruck (c : Counted) (i : ℕ) (p : Place) (x : ℕ) (h : Hart) : Type 0 where
   pub harts : (counted_strike i p x c).world.harts ≡ slice_set c.world.harts i (hart_of (struck p x (state_of h c.world.memory)))
   pub memory : (counted_strike i p x c).world.memory ≡ (struck p x (state_of h c.world.memory)).memory
 
 -- laws of any world
 pub record WorldLaws : Type 0 where
-  pub starts : (gs : List Program) → AreApart gs → IsUnion gs
+  pub starts : (gs : List Program) → AreDisjoint gs → IsUnion gs
   pub turns : (c : Counted) (i : ℕ) (h : Hart) → slice_get c.world.harts i ≡ Some h → IsTurned c i h
-  pub strikes : (c : Counted) (i : ℕ) (p : Place) (x : ℕ) (h : Hart) → slice_get c.world.harts i ≡ Some h → IsStruck c i p x h
+  pub strikes : (c : Counted) (i : ℕ) (p : Place) (x : ℕ) (h : Hart) → slice_get c.world.harts i ≡ Some h → IsHartStruck c i p x h

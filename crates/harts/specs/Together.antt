@@ -11,7 +11,7 @@ use Rattle.machine.specs.Program.{Program, start, zeros}
 use Rattle.qed_model.specs.Promise.Kept.{is_mapped, after_input, after_output, NotTrapped, Steady, Halves, Kept}
 use Rattle.qed_model.specs.Promise.Changed.{changed_run, Ordered, last_step}
 use Rattle.qed_model.specs.Promise.Caught.{bound_of, AllOpen, Caught}
-use Rattle.harts.specs.Harts.{Hart, World, state_of, hart_of, hart_turns, world_after}
+use Rattle.harts.specs.Harts.{Hart, HartsWorld, state_of, hart_of, hart_turns, world_after}
 
 -- ---- what is asked
 -- hart i runs the file g
@@ -19,7 +19,7 @@ abbrev pub IsProgram : List Program → ℕ → Program → Type 0
 IsProgram gs i g = slice_get gs i ≡ Some g
 
 -- no file maps a byte at 2^64 or above, and no two map the same byte
-pub record AreApart (gs : List Program) : Type 0 where
+pub record AreDisjoint (gs : List Program) : Type 0 where
   pub low : (i : ℕ) (g : Program) → IsProgram gs i g → (q : ℕ) → is_mapped g q ≡ true → q < 2 ^ 64
   pub apart : (i j : ℕ) (g h : Program) → IsProgram gs i g → IsProgram gs j h → i ≢ j → (q : ℕ) → is_mapped g q ≡ true → is_mapped h q ≡ true → ⊥
 
@@ -39,19 +39,20 @@ own_run cs ts i g = changed_run (start g zeros) (cs i) (hart_turns ts i)
 
 -- the files share no byte, each changed word is one of the hart's own file, and no hart is trapped when it runs alone
 pub record AreAlone (gs : List Program) (cs : ℕ → List Change) (ts : List ℕ) : Type 0 where
-  pub files : AreApart gs
+  pub files : AreDisjoint gs
   pub words : (i : ℕ) (g : Program) → IsProgram gs i g → AllLieIn g (cs i)
   pub no_trap : (i : ℕ) (g : Program) → IsProgram gs i g → NotTrapped (own_run cs ts i g)
 
 -- ---- the promise
 -- hart i has the state's registers, pc, code ranges and outcome, and each byte that the file maps is that of the state
-pub record Shows (g : Program) (i : ℕ) (w : World) (s : State) : Type 0 where
+pub record ShowsHart (g : Program) (i : ℕ) (w : HartsWorld) (s : State) : Type 0 where
   pub hart : slice_get w.harts i ≡ Some (hart_of s)
   pub bytes : (q : ℕ) → is_mapped g q ≡ true → get w.memory q ≡ get s.memory q
 
 -- after any schedule each hart stands as its run alone does
 abbrev pub Together : Type 0
-Together = (gs : List Program) (cs : ℕ → List Change) (ts : List ℕ) → AreAlone gs cs ts → (i : ℕ) (g : Program) → IsProgram gs i g → Shows g i (world_after gs cs ts) (own_run cs ts i g)
+Together = (gs : List Program) (cs : ℕ → List Change) (ts : List ℕ)
+    → AreAlone gs cs ts → (i : ℕ) (g : Program) → IsProgram gs i g → ShowsHart g i (world_after gs cs ts) (own_run cs ts i g)
 
 -- ---- the promises of a hart
 -- hart i with the memory, after a schedule with k turns and these changes of its own, and any changes of other harts
@@ -92,7 +93,8 @@ pub record SameHart (g : Program) (u v : State) : Type 0 where
 pub record SettlesInTurns (g : Program) (t b : ℕ) (changed unchanged : ℕ → State → Type 0) : Type 0 where
   pub turns : ℕ
   pub within : turns ≤ t + b
-  pub settled : ((u : State) → changed turns u → u.outcome ≡ Fired) ⊎ (((u : State) → changed turns u → u.outcome ≡ Ended) ⊎ ((t ≤ turns) × ((u v : State) → changed turns u → unchanged turns v → SameHart g u v)))
+  pub settled : ((u : State) → changed turns u → u.outcome ≡ Fired) ⊎ (((u : State) → changed turns u → u.outcome ≡ Ended)
+      ⊎ ((t ≤ turns) × ((u v : State) → changed turns u → unchanged turns v → SameHart g u v)))
 
 -- changes of originals that are open in the hart's run without changes settle, while the input's run is steady
 pub record HartCaught (f g : Program) (reached : ℕ → Bool) (spans : List (ℕ × ℕ)) (bounds : Bounds) (seen : List Change → ℕ → State → Type 0) : Type 0 where
@@ -104,5 +106,7 @@ pub record HartCaught (f g : Program) (reached : ℕ → Bool) (spans : List (�
 -- if a hart's file is the output of some input, the promises on the output's runs alone hold of the hart, in its own
 -- turns, in every schedule
 pub record PerHart : Type 0 where
-  pub kept : (gs : List Program) (i : ℕ) (f g : Program) (reached : ℕ → Bool) (first bound : ℕ) → IsProgram gs i g → Kept f g reached first bound → HartKept f reached first bound (IsSeen gs i [])
-  pub caught : (gs : List Program) (i : ℕ) (f g : Program) (reached : ℕ → Bool) (spans : List (ℕ × ℕ)) (bounds : Bounds) → IsProgram gs i g → Caught f g reached spans bounds → HartCaught f g reached spans bounds (IsSeen gs i)
+  pub kept : (gs : List Program) (i : ℕ) (f g : Program) (reached : ℕ → Bool) (first bound : ℕ)
+      → IsProgram gs i g → Kept f g reached first bound → HartKept f reached first bound (IsSeen gs i [])
+  pub caught : (gs : List Program) (i : ℕ) (f g : Program) (reached : ℕ → Bool) (spans : List (ℕ × ℕ)) (bounds : Bounds)
+      → IsProgram gs i g → Caught f g reached spans bounds → HartCaught f g reached spans bounds (IsSeen gs i)

@@ -1,7 +1,7 @@
 //! How harts stand together.
 ghost use Rattle.std.specs.Prelude.{◌≡◌};
 ghost use Rattle.qed_model.specs.Promise.Kept.{is_trapped};
-ghost use Rattle.rv_step.specs.Known.{goes_on};
+ghost use Rattle.rv_step.specs.Known.{does_step};
 ghost use Rattle.harts.specs.Standing.{is_fired, stands};
 
 use qed_model::Outcome;
@@ -21,7 +21,7 @@ fn is_trapped(outcome: Outcome) -> bool
 
 /// Whether this is the outcome of a hart that goes on.
 pub fn is_going(outcome: Outcome) -> bool
-    ensures { result ≡ goes_on outcome }
+    ensures { result ≡ does_step outcome }
 {
     matches!(outcome, Outcome::Going)
 }
@@ -42,7 +42,7 @@ pub fn any_trapped(harts: &[Hart]) -> bool
 
 /// Whether a hart goes on.
 pub fn any_going(harts: &[Hart]) -> bool
-    ensures { result ≡ stands goes_on harts.now }
+    ensures { result ≡ stands does_step harts.now }
 {
     harts.iter().any(|hart| is_going(hart.outcome()))
 }

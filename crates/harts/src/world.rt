@@ -3,10 +3,10 @@ ghost use Rattle.std.specs.Prelude.{◌≡◌, ℕ, ◌+◌, ◌%◌, ◌<◌, �
 ghost use Rattle.std.specs.Option.{option_map};
 ghost use Rattle.std.specs.FinMap.{get};
 ghost use Rattle.harts.specs.HartSteps.{bare, counted_start, counted_turn, counted_strike, counted_turns, cycled};
-ghost use Rattle.harts.specs.Shared.{AreSound, AreUnshared, Explains};
+ghost use Rattle.harts.specs.Shared.{AreSound, AreUnshared, ExplainsHarts};
 ghost use Rattle.harts.specs.Played.{programs, IsPartPlayed};
 ghost use Rattle.qed_model.specs.Promise.Kept.{is_trapped};
-ghost use Rattle.rv_step.specs.Known.{goes_on};
+ghost use Rattle.rv_step.specs.Known.{does_step};
 ghost use Rattle.harts.specs.Standing.{has_one, is_fired, AreIdle};
 
 use crate::error::HartsError;
@@ -28,14 +28,14 @@ pub struct World {
 }
 
 impl Model for World {
-    ghost use Rattle.harts.specs.HartSteps.{Counted, counted};
+    ghost use Rattle.harts.specs.HartSteps.{Counted, counted_world};
     ghost use Rattle.harts.specs.Codes.{counted_code};
 
     ghost Value = { Counted };
 
     ghost coded = { counted_code };
 
-    ghost view = { λ w. counted w.harts.items w.image };
+    ghost view = { λ w. counted_world w.harts.items w.image };
 }
 
 /// The place behind one of `count` places in a circle.
@@ -56,7 +56,7 @@ impl World {
         ensures started { IfOk result (λ world. world ≡ counted_start (programs files.now)) }
         ensures count { IfOk result (λ world. length world.world.harts ≡ length files.now) }
         ensures apart { IfOk result (λ _. AreUnshared (programs files.now)) }
-        ensures error { IfErr result (Explains (programs files.now)) }
+        ensures error { IfErr result (ExplainsHarts (programs files.now)) }
     {
         if let Some((i, j)) = first_sharing(files) {
             return Err(HartsError::Shared(i, j));
@@ -186,7 +186,7 @@ impl World {
     /// Whether a hart goes on.
     #[tactic(auto, using(crate::proofs::Bare::any_bare))]
     pub fn goes_on(&self) -> bool
-        ensures { result ≡ has_one goes_on self.now }
+        ensures { result ≡ has_one does_step self.now }
     {
         any_going(&self.harts)
     }

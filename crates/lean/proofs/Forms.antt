@@ -1,4 +1,4 @@
--- The lean form of a test: its items are those of its file, they can be linked where they are few, and what is linked is its code.
+-- The lean form of a test: its items are those of its file; they can be linked if few, and what is linked is its code.
 use Rattle.std.proofs.Common.{◌≡◌, Bool, ℕ, ◌+◌, ◌-◌, ◌^◌, ◌<◌, ◌≤◌, false, List, [], ◌++◌, length, map, refl, sym, ap, ◌∙◌, subst, arith, append_assoc}
 use Rattle.std.specs.Prelude.{All, AllPairs, get_or}
 use Rattle.std.specs.List.{list_all}
@@ -17,7 +17,7 @@ use Rattle.qed_model.specs.Weave.Sequences.{Form, Block, stub}
 use Rattle.qed_model.specs.Weave.Bounds.{cost_of}
 use Rattle.qed_model.specs.Weave.Forms.{mirror_of, form_of, shape_of}
 use Rattle.qed_model.specs.Weave.LeanBounds.{lean_bounds_of}
-use Rattle.qed_model.specs.Weave.LeanCode.{Lean, lean_in, lean_of, lean_items, items_with as file_items, start_at, worded}
+use Rattle.qed_model.specs.Weave.LeanCode.{Lean, lean_in, lean_of, lean_items, test_items_with as file_items, start_at, worded}
 use Rattle.qed_model.specs.Weave.LeanParts.{worded_parts, file_parts}
 use Rattle.qed_model.specs.Weave.Parts.{code_parts}
 use Rattle.qed_model.specs.Weave.Woven.{lean}
@@ -32,7 +32,7 @@ use Rattle.relinker.specs.declared.error.LinkError.TheVariants as error
 use Rattle.relinker.specs.declared.layout.Layout.{Layout}
 use Rattle.relinker.specs.declared.layout.Linked.{Linked}
 use Rattle.relinker.specs.Counted.{capped, HasCounted}
-use Rattle.relinker.specs.Laid.{IsLaid, IsLinked, HasCause as HasCountCause}
+use Rattle.relinker.specs.Laid.{IsLaid, IsLinked, IsLinkCause as HasCountCause}
 use Rattle.relinker.specs.Link.{is_encoded, most_bytes, IsLinkable}
 use Rattle.relinker.proofs.Joining.{parts_join}
 use Rattle.relinker.proofs.Linkable.{decoded, ascending}
@@ -44,22 +44,22 @@ use Rattle.lean.proofs.Weave.Short.{few_steps}
 use Rattle.lean.proofs.Weave.Tests.{tests_have_words, are_items}
 use Rattle.lean.proofs.Weave.Unmarked.{code_rows, code_size}
 use Rattle.lean.specs.declared.weaver.LeanWeaver.{LeanWeaver}
-use Rattle.weave.specs.Code.{code_begin, IsWoven, HasCause}
+use Rattle.weave.specs.Code.{code_begin, IsWoven, HasCodeCause}
 use Rattle.weave.proofs.DataWords.{few_data}
 use Rattle.weave.proofs.LeanBytes.{few_lean_bytes}
-use Rattle.lean.specs.Code.{lean_with, code_with, items_with, parts_with, IsLeanCut}
-use Rattle.lean.specs.Form.{code_at, code_of, parts_of, kind, IsOwn}
+use Rattle.lean.specs.Code.{lean_with, code_with, test_items_with, test_parts_with, IsLeanCut}
+use Rattle.lean.specs.Form.{code_at, lean_code_of, lean_parts_of, lean_kind, IsOwn}
 use Rattle.lean.proofs.Owned.{owned}
 
--- ---- what a weaver with what was counted of the test makes, is made of the test; the most instructions of a piece are not asked for
+-- ---- what a weaver makes by a test's counts is made of the test; it does not use the most instructions of a piece
 pub woven_is :
     {A : Type 0} (make : Form → ℕ → (ℕ → ℕ) → Lean → (ℕ → Bool) → A) (t : Test) (o : Options) (every : ℕ) (blocks : List Block) (span : List Range) (diverse : Bool) (ticks : ℕ → Bool) (most : ℕ → ℕ)
     → span ≡ t.span → diverse ≡ o.diverse → ((a : ℕ) → ticks a ≡ (lean_with t o every blocks).ticks a) → ((a : ℕ) → most a ≡ (lean_with t o every blocks).most a)
     → ◌≡◌ {A = (ℕ → ℕ) → A} (λ entry. make (record { spans = spans_of span; round = o.round; far = false; sweep = o.sweep; mirror = mirror_of diverse; cost = cost_of diverse }) t.base entry (record { every = every; inst_max = 0; diverse = diverse; land = o.land; distance = t.distance; check = code_begin t + 124; ticks = ticks; most = most; start_of = start_at blocks }) (begins_at blocks))
     (λ entry. make (form_with (spans_of t.span) o false) t.base entry (record (lean_with t o every blocks) { inst_max = 0 }) (begins_at blocks))
-woven_is make t o every blocks span diverse ticks most same kind p q = λ i entry.
-    make (record { spans = spans_of (same i); round = o.round; far = false; sweep = o.sweep; mirror = mirror_of (kind i); cost = cost_of (kind i) }) t.base entry
-    (record { every = every; inst_max = 0; diverse = kind i; land = o.land; distance = t.distance; check = code_begin t + 124; ticks = λ a. p a i; most = λ a. q a i; start_of = start_at blocks }) (begins_at blocks)
+woven_is make t o every blocks span diverse ticks most same lean_kind p q = λ i entry.
+    make (record { spans = spans_of (same i); round = o.round; far = false; sweep = o.sweep; mirror = mirror_of (lean_kind i); cost = cost_of (lean_kind i) }) t.base entry
+    (record { every = every; inst_max = 0; diverse = lean_kind i; land = o.land; distance = t.distance; check = code_begin t + 124; ticks = λ a. p a i; most = λ a. q a i; start_of = start_at blocks }) (begins_at blocks)
 
 -- ---- of a test
 module _ (f : ElfFile) (o : Options) (every : ℕ) (t : Test) (blocks : List CodeBlock) (c : IsLeanCut f o every t blocks) where
@@ -107,13 +107,13 @@ module _ (f : ElfFile) (o : Options) (every : ℕ) (t : Test) (blocks : List Cod
   of_file = file_items f o every bs
 
   abbrev of_test : (ℕ → ℕ) → List Item
-  of_test = items_with t o every bs
+  of_test = test_items_with t o every bs
 
   same_code : (entry : ℕ → ℕ) → code_with t o every bs entry ≡ file_code entry
   same_code entry = λ i. worded (form_with ((spans_are t.span ∙ c.told.span) i) o false) (c.told.base i) entry (lean_in o every bs (c.told.distance i) (place i + 124) (c.told.entry i)) (begins_at bs)
 
-  -- so are their parts
-  parts_whole : (entry : ℕ → ℕ) → code_parts (parts_with t o every bs entry) t.distance t.entry bs ≡ file_parts f o every bs entry
+  -- the parts are those of the file
+  parts_whole : (entry : ℕ → ℕ) → code_parts (test_parts_with t o every bs entry) t.distance t.entry bs ≡ file_parts f o every bs entry
   parts_whole entry = λ i.
       code_parts (worded_parts (form_with ((spans_are t.span ∙ c.told.span) i) o false) (c.told.base i) entry (lean_in o every bs (c.told.distance i) (place i + 124) (c.told.entry i)) (begins_at bs)) (c.told.distance i) (c.told.entry i) bs
 
@@ -167,7 +167,7 @@ module _ (f : ElfFile) (o : Options) (every : ℕ) (t : Test) (blocks : List Cod
     handed entry = ap (λ (s : (ℕ → ℕ) → Sequences). code_to_stub (s entry) t.distance t.entry bs) code
 
     -- it was counted without
-    module _ (count : Count) (near : count.far ≡ false) (counted : HasCounted count (code_to_stub (code_of w) t.distance t.entry bs)) where
+    module _ (count : Count) (near : count.far ≡ false) (counted : HasCounted count (code_to_stub (lean_code_of w) t.distance t.entry bs)) where
       has : HasCounted count items
       has = let first = leads_to w.entries.items w.last in counted_too first own count near (subst (HasCounted count) (handed first) counted)
 
@@ -177,7 +177,7 @@ module _ (f : ElfFile) (o : Options) (every : ℕ) (t : Test) (blocks : List Cod
       few_counted : count.bytes + 4 ≤ most_bytes count.far → sum_of_sizes false (lean_items f o every bs) ≤ 1048576
       few_counted less = let l = subst (λ b. count.bytes + 4 ≤ most_bytes b) near less in let e = bytes_are in omega (arith, l, e, size own)
 
-      pub cause : (e : LinkError) → HasCountCause count e → HasCause (lean f o every bs) e
+      pub cause : (e : LinkError) → HasCountCause count e → HasCodeCause (lean f o every bs) e
       cause (error.TooLarge n) k =
           let e = bytes_are in
           let over : 1048576 < n = subst (λ b. most_bytes b < n) near k.1 in
@@ -226,10 +226,10 @@ module _ (f : ElfFile) (o : Options) (every : ℕ) (t : Test) (blocks : List Cod
               let high = inside.high in
               omega (arith, is, high, few, size own, size (λ a. 0), same_size own (λ a. 0), place_small, place)
 
-          -- and its weaver hands on the items, which become the code
-          module _ (knows : LeanWeaver) (placed_code : code_of knows ≡ code_at w (leads_to copy last)) where
+          -- the weaver with the copy of the rows hands on the items, which become the code
+          module _ (knows : LeanWeaver) (placed_code : lean_code_of knows ≡ code_at w (leads_to copy last)) where
             abbrev parts : List Item
-            parts = code_to_stub (code_of knows) t.distance t.entry bs
+            parts = code_to_stub (lean_code_of knows) t.distance t.entry bs
 
             same_parts : parts ≡ items
             same_parts = ap (λ s. code_to_stub s t.distance t.entry bs) placed_code ∙ handed (leads_to copy last) ∙ ap of_test known
@@ -238,8 +238,8 @@ module _ (f : ElfFile) (o : Options) (every : ℕ) (t : Test) (blocks : List Cod
             come = subst (IsLaid layout []) (sym same_parts) all_laid
 
             pub linked_is :
-                (linked : Linked) → IsLinked layout.far layout.base parts linked → knows.blocks.now ≡ blocks → knows.every ≡ every → parts_of knows ≡ parts_with t o every bs (leads_to copy last)
-                → IsWoven (lean f o every bs) f o t blocks (kind knows) (parts_of knows) (IsOwn knows) linked
+                (linked : Linked) → IsLinked layout.far layout.base parts linked → knows.blocks.now ≡ blocks → knows.every ≡ every → lean_parts_of knows ≡ test_parts_with t o every bs (leads_to copy last)
+                → IsWoven (lean f o every bs) f o t blocks (lean_kind knows) (lean_parts_of knows) (IsOwn knows) linked
             linked_is linked k are steps made =
                 let l : IsLinked layout.far layout.base items linked = subst (λ is. IsLinked layout.far layout.base is linked) same_parts k in
                 let all = ap (λ b. placed b layout.base (items ++ stub)) is_near ∙ ap (λ n. placed false n (items ++ stub)) (base ∙ place) ∙ ap (placed false at) (whole own) in
@@ -248,7 +248,7 @@ module _ (f : ElfFile) (o : Options) (every : ℕ) (t : Test) (blocks : List Cod
                   entries = l.entries ∙ ap (λ b. rows_from b layout.base items) is_near ∙ ap (λ n. rows_from false n items) (base ∙ place) ∙ sym (rows at own);
                   few = few;
                   own = owned f o every blocks c.cut knows are fit;
-                  parts = ap (λ p. code_parts p t.distance t.entry bs) (made ∙ ap (parts_with t o every bs) known) ∙ parts_whole own;
+                  parts = ap (λ p. code_parts p t.distance t.entry bs) (made ∙ ap (test_parts_with t o every bs) known) ∙ parts_whole own;
                   far = refl;
                   table = refl;
                   bounds = ap (lean_bounds_of (shape_of f o false)) steps;

@@ -36,7 +36,7 @@ module _ (diverse : Bool) (list rest : List Ins) (k run at : ℕ) (i : Ins) (les
   split : parts_with diverse before at (drop k list) ≡ by (is_store (class_of i.kind))
   split = ap (parts_with diverse before at) (drop_more list k i less ∙ ap (λ x. x ∷ behind) item)
 
-  -- an instruction that is no store is one more of the run
+  -- an instruction that does not store is one more of the run
   pub on : is_store (class_of i.kind) ≡ false → parts_with diverse before at (drop k list) ≡ parts_with diverse (take (run + 1) rest) at behind
   on e =
       let inside : run < length rest = omega (arith, less, within, long) in
@@ -63,7 +63,7 @@ pub low_store : (list : List Ins) (k : ℕ) (i : Ins) → AllFit list → k < le
 low_store list k i fit less item e = low_as (class_of i.kind) i e (fits_at list k i fit less item).low
 
 -- ---- some of the instructions are behind
--- of which the last ones, since the last store, are a run at the head of the rest
+-- the last ones, since the last store, are a run at the head of the rest
 pub record Behind
     (old now : Bool × ℕ → List (Role × List Item) → List (Role × List Item) → Type 0) (items : List Item) (diverse : Bool) (list : List Ins) (first k : ℕ) (rest : List Ins)
     (run at : ℕ) : Type 0 where

@@ -19,18 +19,25 @@ use Rattle.lean.specs.Counts.{ticks_in, most_in}
 use Rattle.lean.specs.Leaves.{Turns}
 
 -- ---- of a weaver
-abbrev pub form : LeanWeaver → Form
-form w = record { spans = spans_of w.visits.span; round = w.visits.round; far = false; sweep = w.sweeps; mirror = mirror_of w.diverse; cost = cost_of w.diverse }
+abbrev pub lean_form : LeanWeaver → Form
+lean_form w = record {
+  spans = spans_of w.visits.span;
+  round = w.visits.round;
+  far = false;
+  sweep = w.sweeps;
+  mirror = mirror_of w.diverse;
+  cost = cost_of w.diverse;
+}
 
-abbrev pub kind : LeanWeaver → CodeKind
-kind w = record { far = false; table = true; bounds = λ s. lean_bounds_of s w.every }
+abbrev pub lean_kind : LeanWeaver → CodeKind
+lean_kind w = record { far = false; table = true; bounds = λ s. lean_bounds_of s w.every }
 
 abbrev pub blocks_in : LeanWeaver → List Block
 blocks_in w = map block_of w.blocks.now
 
 -- the most instructions of a piece are not asked for
-abbrev pub lean : LeanWeaver → Lean
-lean w = record {
+abbrev pub lean_of_weaver : LeanWeaver → Lean
+lean_of_weaver w = record {
   every = w.every;
   inst_max = 0;
   diverse = w.diverse;
@@ -42,19 +49,19 @@ lean w = record {
   start_of = start_at (blocks_in w);
 }
 
--- its sequences, where an input address has its entry
+-- the sequences of a weaver, by where an input address has its entry
 abbrev pub code_at : LeanWeaver → (ℕ → ℕ) → Sequences
-code_at w entry = worded (form w) w.base entry (lean w) (begins_at (blocks_in w))
+code_at w entry = worded (lean_form w) w.base entry (lean_of_weaver w) (begins_at (blocks_in w))
 
-abbrev pub code_of : LeanWeaver → Sequences
-code_of w = code_at w (leads_to w.entries.items w.last)
+abbrev pub lean_code_of : LeanWeaver → Sequences
+lean_code_of w = code_at w (leads_to w.entries.items w.last)
 
--- and their parts
+-- the parts of its sequences
 abbrev pub parts_at : LeanWeaver → (ℕ → ℕ) → Parts
-parts_at w entry = worded_parts (form w) w.base entry (lean w) (begins_at (blocks_in w))
+parts_at w entry = worded_parts (lean_form w) w.base entry (lean_of_weaver w) (begins_at (blocks_in w))
 
-abbrev pub parts_of : LeanWeaver → Parts
-parts_of w = parts_at w (leads_to w.entries.items w.last)
+abbrev pub lean_parts_of : LeanWeaver → Parts
+lean_parts_of w = parts_at w (leads_to w.entries.items w.last)
 
 -- one of its blocks: its leave is found by where it stands, and the signature turns to where it goes on
 pub record IsOwn (w : LeanWeaver) (b : CodeBlock) : Type 0 where

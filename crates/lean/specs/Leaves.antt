@@ -7,7 +7,7 @@ use Rattle.machine.specs.Step.{target, Ins, Class, class_of, ins}
 use Rattle.machine.specs.Offsets.{distance_between}
 use Rattle.qed_model.specs.declared.role.Role.{Role}
 use Rattle.qed_model.specs.declared.role.Role.TheVariants as role
-use Rattle.weave.specs.Leaves.{is_end}
+use Rattle.weave.specs.Leaves.{is_ecall_end}
 use Rattle.qed_model.specs.Weave.Placed.{sum_of_sizes}
 use Rattle.qed_model.specs.Weave.Sequences.{Form, End, Falls, Stops, sweep, compare, before_end, guard, links, check_sign, TEMPORARY}
 use Rattle.qed_model.specs.Weave.Lean.{turn, opposite, taken, take_target, called, check_distance, look_up, look_again, leave_as}
@@ -41,16 +41,16 @@ guarded_leap d i at = check_distance d ++ (guard i.rs1 ++ aim d i at)
 abbrev pub ecall_parts : Form → ℕ → ℕ → ℕ → List (Role × List Item)
 ecall_parts form d a at = (role.Sweep, compare) ∷ (role.Leave at, check_distance d) ∷ (role.Sign a, check_sign a) ∷ (role.Sweep, before_end form) ∷ []
 
-abbrev pub before_parts : Form → ℕ → Option Ins → ℕ → ℕ → List (Role × List Item)
-before_parts form d end a at = cond (is_end end) (ecall_parts form d a at) []
+abbrev pub lean_before_parts : Form → ℕ → Option Ins → ℕ → ℕ → List (Role × List Item)
+lean_before_parts form d end a at = cond (is_ecall_end end) (ecall_parts form d a at) []
 
-abbrev pub last_as : ℕ → (ℕ → List Item) → Class → Ins → ℕ → ℕ → List Item
-last_as d fall class.End i a at = Plain i ∷ []
-last_as d fall c i a at = leave_as d [] fall c i a at
+abbrev pub lean_last_as : ℕ → (ℕ → List Item) → Class → Ins → ℕ → ℕ → List Item
+lean_last_as d fall class.End i a at = Plain i ∷ []
+lean_last_as d fall c i a at = leave_as d [] fall c i a at
 
-abbrev pub last_items : ℕ → (ℕ → List Item) → Option Ins → ℕ → ℕ → List Item
-last_items d fall None a at = falls fall a at
-last_items d fall (Some i) a at = last_as d fall (class_of i.kind) i a at
+abbrev pub lean_last_items : ℕ → (ℕ → List Item) → Option Ins → ℕ → ℕ → List Item
+lean_last_items d fall None a at = falls fall a at
+lean_last_items d fall (Some i) a at = lean_last_as d fall (class_of i.kind) i a at
 
 -- ---- where the signature turns
 -- the sum with 2048 is below 2^63

@@ -1,4 +1,4 @@
--- What the lean form promises of a jump that goes astray: where the code of a block runs under another signature, the run is over soon.
+-- A promise of the lean form on stray jumps: if the code of a block runs under another signature, the run is over soon.
 use Rattle.std.specs.Prelude.{◌≡◌, ℕ, ◌+◌, ◌*◌, ◌/◌, ◌≤◌, ◌⊎◌, true, false, List}
 use Rattle.machine.specs.Members.{Among}
 use Rattle.machine.specs.declared.outcome.Outcome.{Outcome}
@@ -17,7 +17,7 @@ use Rattle.qed_model.specs.Weave.Sequences.{Block, SIGNATURE}
 
 -- ---- where a jump leads
 -- a word of the pieces of a block, or the first one behind them
-pub record IsInside (s : Sequences) (entry : ℕ → ℕ) (b : Block) (q : ℕ) : Type 0 where
+pub record IsInBlock (s : Sequences) (entry : ℕ → ℕ) (b : Block) (q : ℕ) : Type 0 where
   pub words : ℕ
   pub within : 4 * words ≤ sum_of_sizes false (pieces_of s b.body b.start)
   pub there : q ≡ entry b.start + sum_of_sizes false (s.enter b.start) + 4 * words
@@ -36,10 +36,11 @@ pub record Stopped (most : ℕ) (s : State) : Type 0 where
 abbrev pub steps_in : Sequences → Block → ℕ
 steps_in s b = sum_of_sizes false (pieces_of s b.body b.start) / 4 + 19
 
--- for any registers of the output's start: from any state of the run, the same state inside of a block under another signature is over within these steps
+-- for any start registers: a state of the run, placed inside a block under another signature, is over within `steps_in`
 pub record Strayed (g : Program) (s : Sequences) (entry : ℕ → ℕ) (blocks : List Block) : Type 0 where
   pub stops :
-      (regs : List ℕ) (t q : ℕ) (b : Block) → AreStartRegs regs → (after_output g regs t).outcome ≡ Going → Among b blocks → IsInside s entry b q → (reg (after_output g regs t) SIGNATURE ≡ b.start → ⊥)
+      (regs : List ℕ) (t q : ℕ) (b : Block) → AreStartRegs regs → (after_output g regs t).outcome ≡ Going → Among b blocks → IsInBlock s entry b q
+      → (reg (after_output g regs t) SIGNATURE ≡ b.start → ⊥)
       → Stopped (steps_in s b) (placed_at q (after_output g regs t))
 
 -- ---- of a file in the lean form

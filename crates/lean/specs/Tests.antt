@@ -42,56 +42,68 @@ pub record IsLeanTest (f : ElfFile) (o : Options) (every : ℕ) (blocks : List B
   pub small : (k : ℕ) → slice_index words k < 2 ^ 32
   pub code : Decode words (placed false (code_place o.half (image_of f)) (lean_items f o every blocks))
 
--- its output, which always has a table
+-- the output of the form, which always has a table
 abbrev pub lean_file : ElfFile → Options → ℕ → List Block → List ℕ → OutFile
 lean_file f o every blocks words = file_of f o.half true (rows_from false (code_place o.half (image_of f)) (lean_items f o every blocks)) (bytes_of words)
 
 -- ---- the laws
--- there are such words, where the items have no more bytes
+-- items of at most `MAX_NEAR_CODE_BYTES` have words
 abbrev pub LeanTestsHaveWords : Type 0
 LeanTestsHaveWords =
-    (f : ElfFile) (o : Options) (every : ℕ) (blocks : List Block) → AreLeanBlocks f o every blocks → sum_of_sizes false (lean_items f o every blocks) ≤ MAX_NEAR_CODE_BYTES
+    (f : ElfFile) (o : Options) (every : ℕ) (blocks : List Block) → AreLeanBlocks f o every blocks
+    → sum_of_sizes false (lean_items f o every blocks) ≤ MAX_NEAR_CODE_BYTES
     → (words : List ℕ) × IsLeanTest f o every blocks words
 
 -- within the limits the output can be written
 abbrev pub LeanTestsWritable : Type 0
 LeanTestsWritable =
     (f : ElfFile) (o : Options) (every : ℕ) (blocks : List Block) (words : List ℕ) → IsLeanTest f o every blocks words
-    → length (lean_file f o every blocks words).segments ≤ limit_of limit.OutputSegments → length (written (lean_file f o every blocks words)) ≤ limit_of limit.OutputBytes
+    → length (lean_file f o every blocks words).segments ≤ limit_of limit.OutputSegments
+    → length (written (lean_file f o every blocks words)) ≤ limit_of limit.OutputBytes
     → IsWritable (lean_file f o every blocks words)
 
 -- the output comes to the input's states in their order, with its values
 abbrev pub LeanTestsKept : Type 0
 LeanTestsKept =
-    (f : ElfFile) (o : Options) (every : ℕ) (blocks : List Block) (words : List ℕ) → IsLeanTest f o every blocks words → (reached : ℕ → Bool) → AreReached f o reached
-    → KeptInStep (loaded_file f) (loaded_file (file_read (lean_file f o every blocks words))) reached (half_of o.half (image_of f)) (lean_bounds f o every).start (lean_bounds f o every).piece
+    (f : ElfFile) (o : Options) (every : ℕ) (blocks : List Block) (words : List ℕ)
+    → IsLeanTest f o every blocks words → (reached : ℕ → Bool) → AreReached f o reached
+    → KeptInStep (loaded_file f) (loaded_file (file_read (lean_file f o every blocks words))) reached (half_of o.half (image_of f))
+    (lean_bounds f o every).start (lean_bounds f o every).piece
 
 -- changes are caught
 abbrev pub LeanTestsCaught : Type 0
 LeanTestsCaught =
-    (f : ElfFile) (o : Options) (every : ℕ) (blocks : List Block) (words : List ℕ) → IsLeanTest f o every blocks words → (reached : ℕ → Bool) → AreReached f o reached
-    → CaughtInStep (loaded_file f) (loaded_file (file_read (lean_file f o every blocks words))) reached (data_ranges (image_of f)) (lean_bounds f o every) (lean_bounds f o every).start (lean_bounds f o every).piece
+    (f : ElfFile) (o : Options) (every : ℕ) (blocks : List Block) (words : List ℕ)
+    → IsLeanTest f o every blocks words → (reached : ℕ → Bool) → AreReached f o reached
+    → CaughtInStep (loaded_file f) (loaded_file (file_read (lean_file f o every blocks words))) reached (data_ranges (image_of f))
+    (lean_bounds f o every) (lean_bounds f o every).start (lean_bounds f o every).piece
 
--- so is a wrong result of an instruction
+-- a wrong result of an instruction is caught
 abbrev pub LeanTestsFaults : Type 0
 LeanTestsFaults =
-    (f : ElfFile) (o : Options) (every : ℕ) (blocks : List Block) (words : List ℕ) → IsLeanTest f o every blocks words → (reached : ℕ → Bool) → AreReached f o reached
-    → FaultsFound (loaded_file f) (loaded_file (file_read (lean_file f o every blocks words))) reached (data_ranges (image_of f)) (lean_bounds f o every) (lean_bounds f o every).start (lean_bounds f o every).piece
+    (f : ElfFile) (o : Options) (every : ℕ) (blocks : List Block) (words : List ℕ)
+    → IsLeanTest f o every blocks words → (reached : ℕ → Bool) → AreReached f o reached
+    → FaultsFound (loaded_file f) (loaded_file (file_read (lean_file f o every blocks words))) reached (data_ranges (image_of f))
+    (lean_bounds f o every) (lean_bounds f o every).start (lean_bounds f o every).piece
 
 -- where entries test the signature, jumps land
 abbrev pub LeanTestsLanded : Type 0
 LeanTestsLanded =
-    (f : ElfFile) (o : Options) (every : ℕ) (blocks : List Block) (words : List ℕ) → IsLeanTest f o every blocks words → o.land ≡ true → (reached : ℕ → Bool) → AreReached f o reached
-    → LandedInStep 4 (loaded_file f) (loaded_file (file_read (lean_file f o every blocks words))) reached (rows_from false (code_place o.half (image_of f)) (lean_items f o every blocks)) (lean_bounds f o every).start (lean_bounds f o every).piece
+    (f : ElfFile) (o : Options) (every : ℕ) (blocks : List Block) (words : List ℕ)
+    → IsLeanTest f o every blocks words → o.land ≡ true → (reached : ℕ → Bool) → AreReached f o reached
+    → LandedInStep 4 (loaded_file f) (loaded_file (file_read (lean_file f o every blocks words))) reached
+    (rows_from false (code_place o.half (image_of f)) (lean_items f o every blocks)) (lean_bounds f o every).start (lean_bounds f o every).piece
 
--- and where the code of a block runs under the signature of another one, the run is over soon
+-- with `land`, if the code of a block runs under the signature of another one, the run is over soon
 abbrev pub LeanTestsStrayed : Type 0
 LeanTestsStrayed =
     (f : ElfFile) (o : Options) (every : ℕ) (blocks : List Block) (words : List ℕ) → IsLeanTest f o every blocks words → o.land ≡ true
     → Strayed (loaded_file (file_read (lean_file f o every blocks words))) (code_in f o every blocks) (entry_in f o every blocks) blocks
 
--- and with the sweep no change before it is silent at the end
+-- with the sweep no change before it is silent at the end
 abbrev pub LeanTestsClean : Type 0
 LeanTestsClean =
-    (f : ElfFile) (o : Options) (every : ℕ) (blocks : List Block) (words : List ℕ) → IsLeanTest f o every blocks words → o.sweep ≡ true → (reached : ℕ → Bool) → AreReached f o reached
-    → CleanInStep (loaded_file f) (loaded_file (file_read (lean_file f o every blocks words))) reached (data_ranges (image_of f)) (sweep_cost (data_ranges (image_of f)) + 14) (lean_bounds f o every).start (lean_bounds f o every).piece
+    (f : ElfFile) (o : Options) (every : ℕ) (blocks : List Block) (words : List ℕ)
+    → IsLeanTest f o every blocks words → o.sweep ≡ true → (reached : ℕ → Bool) → AreReached f o reached
+    → CleanInStep (loaded_file f) (loaded_file (file_read (lean_file f o every blocks words))) reached (data_ranges (image_of f))
+    (sweep_cost (data_ranges (image_of f)) + 14) (lean_bounds f o every).start (lean_bounds f o every).piece

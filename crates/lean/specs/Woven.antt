@@ -36,8 +36,8 @@ abbrev pub swept_steps : World → ℕ
 swept_steps w = end_bound w.form.sweep (length w.form.spans) (word_count w.form.spans)
 
 -- the weave: a tick may go to the check, and then the entry is made once more
-abbrev pub weave_of : World → Lean → (ℕ → Bool) → Weave
-weave_of w l leader = record {
+abbrev pub lean_weave_of : World → Lean → (ℕ → Bool) → Weave
+lean_weave_of w l leader = record {
   code = sequences w.form w.entry l (fall_to leader) begin;
   fits = λ is. is_run is && nat_le (length is) l.inst_max;
   first_steps = 31;
@@ -53,8 +53,8 @@ weave_of w l leader = record {
   held = is_ticked_at l.every;
 }
 
--- The code is near, the halves are not too far from each other, and the check stands in its place. From each entry there are fewer steps to the next tick
--- than from check to check. Each leader has code, on its grain, its entry, and its place in the table
+-- The code is near, the halves are near enough, and the check is in its place. From an entry to the next tick there are
+-- fewer steps than from check to check. Each leader has code, on its grain, its entry, and its place in the table
 pub record LeanIn (w : World) (l : Lean) (leader : ℕ → Bool) : Type 0 where
   pub near : w.form.far ≡ false
   pub small : w.distance ≤ 2 ^ 32
@@ -112,7 +112,7 @@ pub record LeanPlan (f g : Program) (w : World) (l : Lean) (blocks : List Block)
   pub sound : LeanIn w l (begins_at blocks)
   pub words : Reads false w.code w.entry g.entry (code_of (worded w.form w.base w.entry l (begins_at blocks)) w.distance f.entry blocks)
   pub check : l.check ≡ g.entry + sum_of_sizes false (begin w.distance f.entry)
-  pub good : AllBlocksOf w (weave_of w l (begins_at blocks)) (begins_at blocks) blocks
+  pub good : AllBlocksOf w (lean_weave_of w l (begins_at blocks)) (begins_at blocks) blocks
   pub begins : begins_at blocks f.entry ≡ true
   pub ticked : l.ticks f.entry ≡ true
   pub order : InOrder (begins_at blocks) blocks
@@ -121,42 +121,44 @@ pub record LeanPlan (f g : Program) (w : World) (l : Lean) (blocks : List Block)
 
 -- ---- the laws
 -- the bounds on the steps of the output: once, and for each step of the input and once more
-abbrev pub start_of : World → ℕ
-start_of w = 31 + swept_steps w
+abbrev pub lean_start_of : World → ℕ
+lean_start_of w = 31 + swept_steps w
 
-abbrev pub piece_of : World → Lean → ℕ
-piece_of w l = 27 + call_steps l.land + 2 * entry_steps l.land + check_steps w + cost_of l.diverse * l.inst_max
+abbrev pub lean_piece_of : World → Lean → ℕ
+lean_piece_of w l = 27 + call_steps l.land + 2 * entry_steps l.land + check_steps w + cost_of l.diverse * l.inst_max
 
 -- a plan keeps the values
 abbrev pub LeanKept : Type 0
-LeanKept = (f g : Program) (w : World) (l : Lean) (blocks : List Block) → LeanPlan f g w l blocks → Kept f g w.reached (start_of w) (piece_of w l)
+LeanKept = (f g : Program) (w : World) (l : Lean) (blocks : List Block) → LeanPlan f g w l blocks → Kept f g w.reached (lean_start_of w) (lean_piece_of w l)
 
--- and the output comes to the input's states in their order
+-- in a plan the output comes to the input's states in their order
 abbrev pub LeanKeptInStep : Type 0
-LeanKeptInStep = (f g : Program) (w : World) (l : Lean) (blocks : List Block) → LeanPlan f g w l blocks → KeptInStep f g w.reached w.distance (start_of w) (piece_of w l)
+LeanKeptInStep = (f g : Program) (w : World) (l : Lean) (blocks : List Block) → LeanPlan f g w l blocks
+    → KeptInStep f g w.reached w.distance (lean_start_of w) (lean_piece_of w l)
 
-pub record IsBoundsOf (w : World) (l : Lean) (bounds : Bounds) : Type 0 where
+pub record IsLeanBoundsOf (w : World) (l : Lean) (bounds : Bounds) : Type 0 where
   pub register : bounds.register ≡ register_bound l.land (swept_steps w) (period l.land (check_steps w) l.every)
   pub word : bounds.word ≡ word_bound l.land (word_count w.form.spans) w.form.round (swept_steps w) (period l.land (check_steps w) l.every)
 
 -- in a plan changes are caught
 abbrev pub LeanCaught : Type 0
-LeanCaught = (f g : Program) (w : World) (l : Lean) (blocks : List Block) (bounds : Bounds) → LeanPlan f g w l blocks → 1 ≤ w.form.round → IsBoundsOf w l bounds → CaughtInStep f g w.reached w.form.spans bounds (start_of w) (piece_of w l)
+LeanCaught = (f g : Program) (w : World) (l : Lean) (blocks : List Block) (bounds : Bounds) → LeanPlan f g w l blocks → 1 ≤ w.form.round
+    → IsLeanBoundsOf w l bounds → CaughtInStep f g w.reached w.form.spans bounds (lean_start_of w) (lean_piece_of w l)
 
 -- where entries test the signature, jumps land
 abbrev pub LeanLanded : Type 0
 LeanLanded =
     (f g : Program) (w : World) (l : Lean) (blocks : List Block) (entries : List EntryRow) → LeanPlan f g w l blocks → l.land ≡ true
-    → ((a e : ℕ) → IsEntry entries a e → (begins_at blocks a ≡ true) × (e ≡ w.entry a)) → LandedInStep 4 f g w.reached entries (start_of w) (piece_of w l)
+    → ((a e : ℕ) → IsEntry entries a e → (begins_at blocks a ≡ true) × (e ≡ w.entry a)) → LandedInStep 4 f g w.reached entries (lean_start_of w) (lean_piece_of w l)
 
--- and where the code of a block runs under the signature of another one, the run is over soon
+-- with `land`, if the code of a block runs under the signature of another one, the run is over soon
 abbrev pub LeanStrayed : Type 0
 LeanStrayed =
     (f g : Program) (w : World) (l : Lean) (blocks : List Block) → LeanPlan f g w l blocks → l.land ≡ true
     → Strayed g (worded w.form w.base w.entry l (begins_at blocks)) w.entry blocks
 
--- and with the sweep no change before it is silent at the end
+-- with the sweep no change before it is silent at the end
 abbrev pub LeanClean : Type 0
 LeanClean =
     (f g : Program) (w : World) (l : Lean) (blocks : List Block) → LeanPlan f g w l blocks → w.form.sweep ≡ true
-    → CleanInStep f g w.reached w.form.spans (sweep_cost w.form.spans + 14) (start_of w) (piece_of w l)
+    → CleanInStep f g w.reached w.form.spans (sweep_cost w.form.spans + 14) (lean_start_of w) (lean_piece_of w l)

@@ -16,10 +16,11 @@ use weave::put_zeros;
 /// The bytes of what runs before the check.
 pub(crate) const BEGIN_BYTES: u64 = 124;
 
-/// The distance of the halves, the signature of the test's entry, a count that the first tick takes past 2047, and the jump there.
+/// Sets the halves' distance, the signature of the test's entry and a count that the first tick takes past 2047; jumps.
 fn put_start(distance: u64, entry: u64, out: &mut Emit) -> Result<(), AllocError>
     requires { distance < 2 ^ 63 }
-    ensures { OnOk result (out.new ≡ out.old ++ Plain (ins Lui DISTANCE 0 0 (pos distance)) ∷ Constant SIGNATURE entry ∷ Plain (ins Addi CURSOR 0 0 (pos 2047)) ∷ Go entry ∷ []) }
+    ensures { OnOk result (out.new ≡ out.old ++ Plain (ins Lui DISTANCE 0 0 (pos distance)) ∷ Constant SIGNATURE entry
+        ∷ Plain (ins Addi CURSOR 0 0 (pos 2047)) ∷ Go entry ∷ []) }
 {
     let zero = register(0);
     out.put(&[
@@ -37,8 +38,8 @@ fn put_start(distance: u64, entry: u64, out: &mut Emit) -> Result<(), AllocError
     Ok(())
 }
 
-/// All registers of both halves are 0, x14 is the distance of the halves, and the test begins at its entry, with the first data word
-/// and a count of 2047.
+/// All registers of both halves are 0, x14 is the distance of the halves, and the test begins at its entry, with the
+/// first data word and a count of 2047.
 pub(crate) fn put_begin(distance: u64, entry: u64, out: &mut Emit) -> Result<(), AllocError>
     requires { distance < 2 ^ 63 }
     ensures { OnOk result (out.new ≡ out.old ++ begin distance entry) }

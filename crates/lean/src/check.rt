@@ -85,8 +85,8 @@ pub(crate) fn put_done(first: u64, every: u64, out: &mut Emit) -> Result<(), All
     Ok(())
 }
 
-/// Looks the entry of the signature up once more, and goes there; fires where it is not the one in x30. x14 gets the distance of the
-/// halves again.
+/// Looks up the entry of the signature once more, and goes there; fires if it is not the one in x30. x14 gets the
+/// distance of the halves again.
 pub(crate) fn put_look_again(distance: u64, out: &mut Emit) -> Result<(), AllocError>
     requires { distance < 2 ^ 63 }
     ensures { OnOk result (out.new ≡ out.old ++ look_again distance) }

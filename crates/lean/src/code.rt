@@ -4,9 +4,9 @@ ghost use Rattle.elf_types.specs.declared.file.ElfFile.{ElfFile};
 ghost use Rattle.block_split.specs.Listed.{block_of};
 ghost use Rattle.qed_model.specs.Weave.Placed.{EntriesAscend, leads_to};
 ghost use Rattle.qed_model.specs.Weave.Woven.{lean};
-ghost use Rattle.weave.specs.Code.{IsWoven, HasCause};
-ghost use Rattle.lean.specs.Code.{code_with, parts_with, IsLeanCut};
-ghost use Rattle.lean.specs.Form.{code_at, code_of, parts_at, parts_of, kind, IsOwn};
+ghost use Rattle.weave.specs.Code.{IsWoven, HasCodeCause};
+ghost use Rattle.lean.specs.Code.{code_with, test_parts_with, IsLeanCut};
+ghost use Rattle.lean.specs.Form.{code_at, lean_code_of, parts_at, lean_parts_of, lean_kind, IsOwn};
 
 use crate::begin::BEGIN_BYTES;
 use crate::counts::counts_of;
@@ -28,7 +28,7 @@ fn weaver<'a>(
 ) -> Result<LeanWeaver<'a>, AllocError>
     requires { (f : ElfFile) × IsLeanCut f options.now every test.now blocks.now }
     ensures code { IfOk result (λ w. code_at w ≡ code_with test.now options.now every (map block_of blocks.now)) }
-    ensures parts { IfOk result (λ w. parts_at w ≡ parts_with test.now options.now every (map block_of blocks.now)) }
+    ensures parts { IfOk result (λ w. parts_at w ≡ test_parts_with test.now options.now every (map block_of blocks.now)) }
     ensures blocks { IfOk result (λ w. w.blocks.now ≡ blocks.now) }
     ensures every { IfOk result (λ w. w.every ≡ every) }
 {
@@ -57,8 +57,8 @@ fn weaver<'a>(
 fn place(weaver: &mut LeanWeaver, entries: Vec<EntryRow>, last: u64)
     requires rows { EntriesAscend entries.items }
     requires low { (a : ℕ) → leads_to entries.items last a + 32 < 2 ^ 64 }
-    ensures code { code_of weaver.new ≡ code_at weaver.old (leads_to entries.items last) }
-    ensures parts { parts_of weaver.new ≡ parts_at weaver.old (leads_to entries.items last) }
+    ensures code { lean_code_of weaver.new ≡ code_at weaver.old (leads_to entries.items last) }
+    ensures parts { lean_parts_of weaver.new ≡ parts_at weaver.old (leads_to entries.items last) }
     ensures blocks { weaver.new.blocks.now ≡ weaver.old.blocks.now }
     ensures every { weaver.new.every ≡ weaver.old.every }
 {
@@ -77,8 +77,11 @@ pub fn lean_code<'a>(
     blocks: &'a [CodeBlock],
 ) -> Result<Woven<LeanWeaver<'a>>, LinkError>
     requires { (f : ElfFile) × IsLeanCut f options.now every test.now blocks.now }
-    ensures code { IfOk result (λ woven. (f : ElfFile) → IsLeanCut f options.now every test.now blocks.now → IsWoven (lean f options.now every (map block_of blocks.now)) f options.now test.now blocks.now (kind woven.weaver) (parts_of woven.weaver) (IsOwn woven.weaver) woven.linked) }
-    ensures cause { IfErr result (λ e. (f : ElfFile) → IsLeanCut f options.now every test.now blocks.now → HasCause (lean f options.now every (map block_of blocks.now)) e) }
+    ensures code { IfOk result (λ woven. (f : ElfFile) → IsLeanCut f options.now every test.now blocks.now
+        → IsWoven (lean f options.now every (map block_of blocks.now)) f options.now test.now blocks.now
+        (lean_kind woven.weaver) (lean_parts_of woven.weaver) (IsOwn woven.weaver) woven.linked) }
+    ensures cause { IfErr result (λ e. (f : ElfFile) → IsLeanCut f options.now every test.now blocks.now
+        → HasCodeCause (lean f options.now every (map block_of blocks.now)) e) }
 {
     let mut weaver = weaver(alloc, test, options, every, blocks)?;
     let count = counted(alloc, &weaver, test, blocks)?;

@@ -1,12 +1,13 @@
-//! Which blocks have a tick, and how many steps it counts: from the last block to the first, since a tick counts the steps of the
-//! blocks behind too, as far as these have none.
+//! Which blocks have a tick, and how many steps it counts: from the last block to the first, since a tick also counts
+//! the steps of blocks behind that have none.
 ghost use Rattle.std.specs.Prelude.{◌≡◌, ◌+◌, ◌-◌, ◌*◌, ◌%◌, ◌^◌, ◌<◌, ◌≤◌, ℕ, ◌==◌, ◌∷◌, List, All, AllPairs, IfOk, OnOk, map, min};
 ghost use Rattle.qed_model.specs.declared.steps.TheConstants.{LEAN_LEAVE_STEPS, MOST_OWED};
 ghost use Rattle.rv_isa.specs.Kind.{class_of};
 ghost use Rattle.elf_types.specs.declared.file.ElfFile.{ElfFile};
 ghost use Rattle.qed_model.specs.Weave.Blocks.{begins_at as begins};
 ghost use Rattle.qed_model.specs.Weave.LeanBounds.{cost_of, entry_steps as entry_steps_of};
-ghost use Rattle.qed_model.specs.Weave.LeanCode.{block_steps as block_cost, leads_on, leads_as, owed_as as owed_as_of, owed_behind as owed_behind_of, needs_tick as needs_tick_of, counting_of, tick_rows, has_tick, most_at};
+ghost use Rattle.qed_model.specs.Weave.LeanCode.{block_steps as block_cost, leads_on, leads_as, owed_as as owed_as_of, owed_behind as owed_behind_of};
+ghost use Rattle.qed_model.specs.Weave.LeanCode.{needs_tick as needs_tick_of, counting_of, tick_rows, has_tick, most_at};
 ghost use Rattle.qed_model.specs.Weave.Sequences.{Block};
 ghost use Rattle.block_split.specs.Listed.{block_of, end_of};
 ghost use Rattle.weave.specs.Fits.{FitsBlock};
@@ -137,8 +138,8 @@ fn add_goals(goals: &mut BTreeSet<u64>, end: &Option<Ins>, at: u64) -> Result<()
     Ok(())
 }
 
-/// Whether a block needs a tick: the first of the test, one to which a block from there on leads, and one from which on too many steps
-/// are.
+/// Whether a block needs a tick: the first of the test, one to which a block from there on leads, and one with too many
+/// steps from there on.
 fn needs_tick(terms: &Terms, block: &CodeBlock, behind: bool, most: u64) -> bool
     ensures { result ≡ needs_tick_of (counting terms.now) (block_of block.now) behind most }
 {
@@ -156,7 +157,8 @@ fn count(
     requires fits { FitsBlock block.now }
     requires few { block_cost terms.now.diverse terms.now.land (begins (map block_of terms.now.blocks.now)) (block_of block.now) < 2048 }
     requires room { terms.now.room ≤ 48 }
-    ensures { OnOk result ((bs : List Block) → AreCounts (counting terms.now) bs counts.old goals.old → AreCounts (counting terms.now) (block_of block.now ∷ bs) counts.new goals.new) }
+    ensures { OnOk result ((bs : List Block) → AreCounts (counting terms.now) bs counts.old goals.old
+        → AreCounts (counting terms.now) (block_of block.now ∷ bs) counts.new goals.new) }
 {
     let at = block.start + 4 * block.body.as_slice().len() as u64;
     let own = block_steps(terms.diverse, terms.land, terms.blocks, block);
@@ -171,7 +173,8 @@ fn count(
 fn counts_in(alloc: Global, terms: &Terms) -> Result<Counts, AllocError>
     requires ascend { AllPairs (λ b c. b.start < c.start) terms.now.blocks.now }
     requires fit { All FitsBlock terms.now.blocks.now }
-    requires few { All (λ b. block_cost terms.now.diverse terms.now.land (begins (map block_of terms.now.blocks.now)) (block_of b) < 2048) terms.now.blocks.now }
+    requires few { All (λ b. block_cost terms.now.diverse terms.now.land
+        (begins (map block_of terms.now.blocks.now)) (block_of b) < 2048) terms.now.blocks.now }
     requires room { terms.now.room ≤ 48 }
     ensures ticks { IfOk result (λ counts. (a : ℕ) → ticks_in counts a ≡ has_tick (tick_rows (counting terms.now) (map block_of terms.now.blocks.now)) a) }
     ensures most { IfOk result (λ counts. (a : ℕ) → most_in counts a ≡ most_at (tick_rows (counting terms.now) (map block_of terms.now.blocks.now)) a) }
@@ -186,10 +189,11 @@ fn counts_in(alloc: Global, terms: &Terms) -> Result<Counts, AllocError>
     Ok(counts)
 }
 
-/// How many steps may be left to the tick before: those from check to check, less those that a block has at most, but 48 at most.
+/// How many steps may be left to the tick before: a period less those that a block has at most, but 48 at most.
 fn room(options: &Options, every: u64) -> u64
     requires { every ≤ 2047 }
-    ensures value { result ≡ min (every - (entry_steps_of options.now.land + (LEAN_LEAVE_STEPS + 1) + cost_of options.now.diverse * options.now.inst_max)) MOST_OWED }
+    ensures value { result ≡ min (every - (entry_steps_of options.now.land + (LEAN_LEAVE_STEPS + 1)
+        + cost_of options.now.diverse * options.now.inst_max)) MOST_OWED }
     ensures bound { result ≤ 48 }
 {
     let body = lean_instruction_steps(options.diverse).saturating_mul(options.inst_max);
@@ -199,8 +203,8 @@ fn room(options: &Options, every: u64) -> u64
     if left < MOST_OWED { left } else { MOST_OWED }
 }
 
-/// Which blocks of a test in the lean form have a tick, and how many steps each counts, where a block that has none counts for the
-/// ticks before it. It takes time with the instructions, and for each block searches among them.
+/// Which blocks of a test in the lean form have a tick, and how many steps each counts; a block without one counts for
+/// the ticks before it. It takes time with the instructions, and for each block searches among them.
 ///
 /// Errors: want of memory.
 pub(crate) fn counts_of(
@@ -211,8 +215,10 @@ pub(crate) fn counts_of(
     blocks: &[CodeBlock],
 ) -> Result<Counts, AllocError>
     requires { (f : ElfFile) × IsLeanCut f options.now every test.now blocks.now }
-    ensures ticks { IfOk result (λ counts. (a : ℕ) → ticks_in counts a ≡ has_tick (tick_rows (counting_of options.now test.now.entry every (map block_of blocks.now)) (map block_of blocks.now)) a) }
-    ensures most { IfOk result (λ counts. (a : ℕ) → most_in counts a ≡ most_at (tick_rows (counting_of options.now test.now.entry every (map block_of blocks.now)) (map block_of blocks.now)) a) }
+    ensures ticks { IfOk result (λ counts. (a : ℕ) → ticks_in counts a
+        ≡ has_tick (tick_rows (counting_of options.now test.now.entry every (map block_of blocks.now)) (map block_of blocks.now)) a) }
+    ensures most { IfOk result (λ counts. (a : ℕ) → most_in counts a
+        ≡ most_at (tick_rows (counting_of options.now test.now.entry every (map block_of blocks.now)) (map block_of blocks.now)) a) }
     ensures bound { IfOk result (λ counts. (a : ℕ) → most_in counts a < 2 ^ 63) }
 {
     let terms = Terms {

@@ -11,8 +11,9 @@ ghost use Rattle.plc_rounds.specs.Spans.{spans_of};
 ghost use Rattle.block_split.specs.Listed.{block_of, end_of};
 ghost use Rattle.weave.specs.Fits.{FitsEnd, FitsLeave};
 ghost use Rattle.weave.specs.Handed.{Comes, Handed};
-ghost use Rattle.lean.specs.Form.{form, blocks_in};
-ghost use Rattle.lean.specs.Leaves.{before, falls, over, leap, aim, guarded_leap, ecall_parts, before_parts, last_as, last_items, IsNear, TurnsAs, Turns};
+ghost use Rattle.lean.specs.Form.{lean_form, blocks_in};
+ghost use Rattle.lean.specs.Leaves.{before, falls, over, leap, aim, guarded_leap, ecall_parts, lean_before_parts, lean_last_as, lean_last_items, IsNear};
+ghost use Rattle.lean.specs.Leaves.{TurnsAs, Turns};
 
 use crate::blocks::begins_at;
 use crate::check::{put_called, put_check_distance, put_compare, put_look_again};
@@ -96,8 +97,8 @@ impl<'a> LeanWeaver<'a> {
         at: u64,
         to: &mut PartSink<S>,
     ) -> Result<(), AllocError>
-        requires { Comes (S.took to.old.sink) to.old.items (ecall_parts (form self.now) self.now.distance start at) }
-        ensures { OnOk result (Handed (S.took to.old.sink) (S.took to.new.sink) to.new.items (ecall_parts (form self.now) self.now.distance start at)) }
+        requires { Comes (S.took to.old.sink) to.old.items (ecall_parts (lean_form self.now) self.now.distance start at) }
+        ensures { OnOk result (Handed (S.took to.old.sink) (S.took to.new.sink) to.new.items (ecall_parts (lean_form self.now) self.now.distance start at)) }
     {
         put_compare(&mut to.items)?;
         to.end(Role::Sweep)?;
@@ -118,8 +119,9 @@ impl<'a> LeanWeaver<'a> {
         at: u64,
         to: &mut PartSink<S>,
     ) -> Result<(), AllocError>
-        requires { Comes (S.took to.old.sink) to.old.items (before_parts (form self.now) self.now.distance end.now start at) }
-        ensures { OnOk result (Handed (S.took to.old.sink) (S.took to.new.sink) to.new.items (before_parts (form self.now) self.now.distance end.now start at)) }
+        requires { Comes (S.took to.old.sink) to.old.items (lean_before_parts (lean_form self.now) self.now.distance end.now start at) }
+        ensures { OnOk result (Handed (S.took to.old.sink) (S.took to.new.sink) to.new.items
+            (lean_before_parts (lean_form self.now) self.now.distance end.now start at)) }
     {
         if is_end(end) {
             self.before_ecall(start, at, to)?;
@@ -171,7 +173,8 @@ fn put_missed(
     requires ascend { AllPairs (λ b c. b.start < c.start) blocks.now }
     requires fits { FitsLeave class.Branch ins.now }
     requires near { IsNear start next }
-    ensures { OnOk result (out.new ≡ out.old ++ (check_way (opposite_of ins.now.kind) ins.now ++ falls (fall_words (begins (map block_of blocks.now))) start next)) }
+    ensures { OnOk result (out.new ≡ out.old ++ (check_way (opposite_of ins.now.kind) ins.now
+        ++ falls (fall_words (begins (map block_of blocks.now))) start next)) }
 {
     put_check_way(opposite(ins.kind), ins, out)?;
     put_next(blocks, start, next, out)
@@ -188,7 +191,7 @@ fn put_branch(
     requires ascend { AllPairs (λ b c. b.start < c.start) blocks.now }
     requires fits { FitsLeave class.Branch ins.now }
     requires near { TurnsAs class.Branch ins.now start at }
-    ensures { OnOk result (out.new ≡ out.old ++ last_as 0 (fall_words (begins (map block_of blocks.now))) class.Branch ins.now start at) }
+    ensures { OnOk result (out.new ≡ out.old ++ lean_last_as 0 (fall_words (begins (map block_of blocks.now))) class.Branch ins.now start at) }
 {
     put_over(ins, start, target(ins, at), out)?;
     put_missed(blocks, ins, start, at.wrapping_add(4), out)
@@ -264,11 +267,12 @@ impl<'a> LeanWeaver<'a> {
         put_guarded_leap(self.distance, ins, at, out)
     }
 
-    /// The leave of an instruction at `at` that ends the block that begins at `start`, without what stands before an ECALL.
+    /// The leave of an instruction at `at`, which ends the block that begins at `start`, after what precedes an ECALL.
     fn put_stop(&self, ins: &Ins, start: u64, at: u64, out: &mut Emit) -> Result<(), AllocError>
         requires fits { FitsLeave (class_of ins.now.kind) ins.now }
         requires near { TurnsAs (class_of ins.now.kind) ins.now start at }
-        ensures { OnOk result (out.new ≡ out.old ++ last_as self.now.distance (fall_words (begins (blocks_in self.now))) (class_of ins.now.kind) ins.now start at) }
+        ensures { OnOk result (out.new ≡ out.old
+            ++ lean_last_as self.now.distance (fall_words (begins (blocks_in self.now))) (class_of ins.now.kind) ins.now start at) }
     {
         match ins.class() {
             Class::Jump => put_jump(ins, start, at, out)?,
@@ -289,7 +293,7 @@ impl<'a> LeanWeaver<'a> {
     ) -> Result<(), AllocError>
         requires fits { FitsEnd end.now }
         requires near { Turns (end_of end.now) start at }
-        ensures { OnOk result (out.new ≡ out.old ++ last_items self.now.distance (fall_words (begins (blocks_in self.now))) end.now start at) }
+        ensures { OnOk result (out.new ≡ out.old ++ lean_last_items self.now.distance (fall_words (begins (blocks_in self.now))) end.now start at) }
     {
         match end {
             None => put_next(self.blocks, start, at, out)?,

@@ -1,5 +1,5 @@
-//! The lean form of the new code: one check for all of it, called by a counter, in place of comparisons behind pieces. Its parts
-//! are made one after the other, counted, and laid out; as a weave it has the promises.
+//! The lean form of the new code: one check for all of it, called by a counter, instead of comparisons behind pieces.
+//! Its parts are made one after the other, counted, and laid out; as a weave it has the promises.
 #![tactic(auto)]
 
 mod begin;

@@ -24,7 +24,7 @@ pub(crate) fn is_store(ins: &Ins) -> bool
     matches!(ins.class(), Class::Store)
 }
 
-/// Gives x30 the address of a store in the other half by the pair of its base, and fires where the base is not that of x30.
+/// Gives x30 a store's address in the other half by the pair of its base, and fires if the base is not that of x30.
 fn put_guard_address(ins: &Ins, out: &mut Emit) -> Result<(), AllocError>
     requires { ins.now.rs1 ≤ LAST_ORIGINAL }
     ensures { OnOk result (out.new ≡ out.old ++ guard_address ins.now) }
@@ -106,7 +106,8 @@ fn weave_through<S: ItemSink>(
     requires rs2 { store.now.rs2 ≤ LAST_ORIGINAL }
     requires low { at + 4 * length run.now < 2 ^ 64 }
     requires come { Comes (S.took to.old.sink) to.old.items (both_parts diverse run.now at ++ store_parts store.now (at + 4 * length run.now)) }
-    ensures { OnOk result (Handed (S.took to.old.sink) (S.took to.new.sink) to.new.items (both_parts diverse run.now at ++ store_parts store.now (at + 4 * length run.now))) }
+    ensures { OnOk result (Handed (S.took to.old.sink) (S.took to.new.sink) to.new.items
+        (both_parts diverse run.now at ++ store_parts store.now (at + 4 * length run.now))) }
 {
     weave_run(diverse, run, at, to)?;
     weave_store(store, at + 4 * run.len() as u64, to)?;

@@ -1,15 +1,16 @@
 //! What is promised of the lean form.
-ghost use Rattle.lean.specs.Tests.{LeanTestsHaveWords, LeanTestsWritable, LeanTestsKept, LeanTestsCaught, LeanTestsFaults, LeanTestsLanded, LeanTestsStrayed, LeanTestsClean};
+ghost use Rattle.lean.specs.Tests.{LeanTestsHaveWords, LeanTestsWritable, LeanTestsKept, LeanTestsCaught, LeanTestsFaults, LeanTestsLanded, LeanTestsStrayed};
+ghost use Rattle.lean.specs.Tests.{LeanTestsClean};
 ghost use Rattle.lean.specs.Woven.{LeanKept, LeanKeptInStep, LeanCaught, LeanLanded, LeanStrayed, LeanClean};
 
-/// A plan of the form keeps the input's values, with a bound on the steps of the output for each step of the input, and no check
-/// fires without changes.
+/// A plan of the form keeps the input's values, with a bound on the steps of the output for each step of the input, and
+/// no check fires without changes.
 pub fn lean_kept()
     ensures { LeanKept }
 {}
 
-/// In a plan of the form the output comes to the input's states in their order, each within the same bound, and ends with the input's
-/// values in both halves.
+/// In a plan of the form the output comes to the input's states in their order, each within the same bound, and ends
+/// with the input's values in both halves.
 pub fn lean_kept_in_step()
     ensures { LeanKeptInStep }
 {}
@@ -24,8 +25,8 @@ pub fn lean_landed()
     ensures { LeanLanded }
 {}
 
-/// In a plan of the form whose entries test the signature, a run that strays into a block under the signature of another one is over
-/// soon, where the block goes on by no register.
+/// In a plan of the form whose entries test the signature, a run that strays into a block under the signature of
+/// another one is over soon, if the block does not go on by a register.
 pub fn lean_strayed()
     ensures { LeanStrayed }
 {}
@@ -40,22 +41,22 @@ pub fn lean_tests_have_words()
     ensures { LeanTestsHaveWords }
 {}
 
-/// Within the limits its file can be written.
+/// Within the limits the file of the lean form can be written.
 pub fn lean_tests_writable()
     ensures { LeanTestsWritable }
 {}
 
-/// Then it comes to the test's states in their order, with their values.
+/// The file comes to the test's states in their order, with their values.
 pub fn lean_tests_kept()
     ensures { LeanTestsKept }
 {}
 
-/// Changes are caught in it.
+/// Changes in the file are caught.
 pub fn lean_tests_caught()
     ensures { LeanTestsCaught }
 {}
 
-/// So is a wrong result of an instruction of the test, as changes behind it.
+/// A wrong result of an instruction of the test is caught, as changes behind it.
 pub fn lean_tests_faults()
     ensures { LeanTestsFaults }
 {}
@@ -65,7 +66,7 @@ pub fn lean_tests_landed()
     ensures { LeanTestsLanded }
 {}
 
-/// And a run that strays into a block under the signature of another one is over soon.
+/// If entries test the signature, a run that strays into a block under the signature of another one is over soon.
 pub fn lean_tests_strayed()
     ensures { LeanTestsStrayed }
 {}

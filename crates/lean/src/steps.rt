@@ -6,7 +6,8 @@ ghost use Rattle.qed_model.specs.Weave.Placed.{sum_of_sizes};
 ghost use Rattle.qed_model.specs.Weave.Sequences.{guard, links};
 ghost use Rattle.qed_model.specs.Weave.Costs.{cost_each, original_cost, mirror_steps as mirror_cost, spent as spent_of};
 ghost use Rattle.qed_model.specs.Weave.Lean.{cost, is_break, leave_cost, leave_cost_as};
-ghost use Rattle.qed_model.specs.Weave.LeanCode.{fall_to, fall_words, mirror_steps_of, store_steps as store_cost, both_steps as both_cost, block_steps as block_cost};
+ghost use Rattle.qed_model.specs.Weave.LeanCode.{fall_to, fall_words, mirror_steps_of, store_steps as store_cost, both_steps as both_cost};
+ghost use Rattle.qed_model.specs.Weave.LeanCode.{block_steps as block_cost};
 ghost use Rattle.block_split.specs.Listed.{block_of, end_of};
 ghost use Rattle.relinker.specs.Counted.{capped};
 ghost use Rattle.weave.specs.Fits.{FitsBlock};
@@ -126,7 +127,7 @@ fn links_steps(ins: &Ins) -> u64
     if ins.rd.number() == 0 { 0 } else { 4 }
 }
 
-/// The step of an instruction, if it is no EBREAK.
+/// The step of an instruction, unless it is an EBREAK.
 fn own_step(ins: &Ins) -> u64
     ensures value { result ≡ cond (is_break ins.now.kind) 0 1 }
     ensures bound { result ≤ 1 }

@@ -20,10 +20,11 @@ pub(crate) fn call_at(land: bool) -> u64
     if land { 28 } else { 20 }
 }
 
-/// Counts so many steps, and goes past the rest of the tick where the count stays below 2048.
+/// Counts `steps` steps, and goes past the rest of the tick if the count stays below 2048.
 fn put_count(land: bool, steps: u64, out: &mut Emit) -> Result<(), AllocError>
     requires { steps < 2 ^ 63 }
-    ensures { OnOk result (out.new ≡ out.old ++ Item.Plain (ins Addi CURSOR CURSOR 0 (pos steps)) ∷ Item.Plain (ins Slli SPARE CURSOR 0 (pos 52)) ∷ Item.Plain (ins Bge 0 SPARE 0 (pos (cond land 12 20))) ∷ []) }
+    ensures { OnOk result (out.new ≡ out.old ++ Item.Plain (ins Addi CURSOR CURSOR 0 (pos steps))
+        ∷ Item.Plain (ins Slli SPARE CURSOR 0 (pos 52)) ∷ Item.Plain (ins Bge 0 SPARE 0 (pos (cond land 12 20))) ∷ []) }
 {
     let zero = register(0);
     let (count, sign) = (register(CURSOR), register(SPARE));
@@ -58,8 +59,8 @@ fn put_call(distance: i64, out: &mut Emit) -> Result<(), AllocError>
     Ok(())
 }
 
-/// Counts so many steps at the entry of the block that begins at `at`, and goes to the check, which stands so far from there, where
-/// the count passes 2047.
+/// Counts `steps` steps at the entry of the block that begins at `at`, and goes to the check, at its distance from
+/// there, if the count passes 2047.
 pub(crate) fn put_tick(
     land: bool,
     at: u64,

@@ -39,7 +39,7 @@ pub struct LeanWeaver<'a> {
     /// Where the check stands.
     pub(crate) check: u64,
     pub(crate) blocks: &'a [CodeBlock],
-    /// Where the entries stand, as far as that is known: from the entry of a block its tick calls the check.
+    /// Where the entries stand, if known: from the entry of a block its tick calls the check.
     pub(crate) entries: Vec<EntryRow>,
     /// Where others are.
     pub(crate) last: u64,
@@ -70,7 +70,9 @@ impl<'a> LeanWeaver<'a> {
 
     /// Appends the tick of the block that begins at an address, where it has one.
     fn put_tick_of(&self, start: u64, out: &mut Emit) -> Result<(), AllocError>
-        ensures { OnOk result (out.new ≡ out.old ++ cond (ticks_in self.now.counts start) (tick self.now.land start (most_in self.now.counts start) (distance_of (leads_to self.now.entries.items self.now.last start + call_place self.now.land) self.now.check)) []) }
+        ensures { OnOk result (out.new ≡ out.old ++ cond (ticks_in self.now.counts start)
+            (tick self.now.land start (most_in self.now.counts start)
+            (distance_of (leads_to self.now.entries.items self.now.last start + call_place self.now.land) self.now.check)) []) }
     {
         let counted = counted_at(&self.counts, start);
         if counted.ticks {
@@ -88,15 +90,15 @@ impl<'a> Weaving for LeanWeaver<'a> {
     ghost use Rattle.qed_model.proofs.Lemmas.{lean_are};
     ghost use Rattle.qed_model.specs.Weave.Blocks.{begins_at};
     ghost use Rattle.qed_model.specs.Weave.Placed.{leads_to};
-    ghost use Rattle.lean.specs.Form.{code_of, parts_of, form, kind, lean, blocks_in, IsOwn};
+    ghost use Rattle.lean.specs.Form.{lean_code_of, lean_parts_of, lean_form, lean_kind, lean_of_weaver, blocks_in, IsOwn};
 
     ghost limit = { limits.LeanBytes };
 
-    ghost code = { λ w. code_of w };
+    ghost code = { λ w. lean_code_of w };
 
-    ghost parts = { λ w. parts_of w };
+    ghost parts = { λ w. lean_parts_of w };
 
-    ghost kind = { λ w. kind w };
+    ghost lean_kind = { λ w. lean_kind w };
 
     ghost is_for = { λ w b. IsOwn w b };
 
@@ -171,5 +173,5 @@ impl<'a> Weaving for LeanWeaver<'a> {
         Ok(())
     }
 
-    ghost whole = { λ w. lean_are (form w) w.base (leads_to w.entries.items w.last) (lean w) (begins_at (blocks_in w)) };
+    ghost whole = { λ w. lean_are (lean_form w) w.base (leads_to w.entries.items w.last) (lean_of_weaver w) (begins_at (blocks_in w)) };
 }

@@ -12,7 +12,7 @@ use Rattle.machine.specs.Program.{LoadSegment}
 use Rattle.machine.specs.Loading.{is_code_section, lies_in_code, lies_in_any, section_ranges, segment_ranges, first_some, ElfFile}
 use Rattle.tests.specs.Admission.CodeWords.{loads_of, ranges_of}
 use Rattle.machine.specs.Members.{Among}
-use Rattle.listing.specs.Homes.{holds_range, is_held, IsHeld}
+use Rattle.listing.specs.Homes.{holds_range, is_held, IsHeldRange}
 
 -- ---- sections
 section_held : (ls : List LoadSegment) (s : Section) → lies_in_any s ls ≡ true → is_held (s.address, s.address + s.size) ls ≡ true
@@ -64,9 +64,9 @@ some_held ls r (x ∷ xs) ys f g m = f m
 range_held : (f : ElfFile) (r : ℕ × ℕ) → Among r (ranges_of f) → is_held r (loads_of f) ≡ true
 range_held f r m = some_held (loads_of f) r (section_ranges (loads_of f) f.sections) (segment_ranges (loads_of f)) (sections_held (loads_of f) f.sections r) (segments_held (loads_of f) r) m
 
-each_held : (ls : List LoadSegment) (rs : List Span) → ((r : ℕ × ℕ) → Among r (spans rs) → is_held r ls ≡ true) → All (λ r. IsHeld ls (span r)) rs
-each_held ls [] h = All-nil (λ r. IsHeld ls (span r))
-each_held ls (r ∷ rs) h = All-cons (λ x. IsHeld ls (span x)) r rs (record { is = h (span r) (inl refl) }) (each_held ls rs (λ x m. h x (inr m)))
+each_held : (ls : List LoadSegment) (rs : List Span) → ((r : ℕ × ℕ) → Among r (spans rs) → is_held r ls ≡ true) → All (λ r. IsHeldRange ls (span r)) rs
+each_held ls [] h = All-nil (λ r. IsHeldRange ls (span r))
+each_held ls (r ∷ rs) h = All-cons (λ x. IsHeldRange ls (span x)) r rs (record { is = h (span r) (inl refl) }) (each_held ls rs (λ x m. h x (inr m)))
 
-pub all_held : (f : ElfFile) (xs ys : List Span) → spans xs ≡ ranges_of f → IsPermutation xs ys → All (λ r. IsHeld (loads_of f) (span r)) ys
-all_held f xs ys e moved = All-permutation (λ r. IsHeld (loads_of f) (span r)) xs ys moved (each_held (loads_of f) xs (λ r m. range_held f r (subst (Among r) e m)))
+pub all_held : (f : ElfFile) (xs ys : List Span) → spans xs ≡ ranges_of f → IsPermutation xs ys → All (λ r. IsHeldRange (loads_of f) (span r)) ys
+all_held f xs ys e moved = All-permutation (λ r. IsHeldRange (loads_of f) (span r)) xs ys moved (each_held (loads_of f) xs (λ r m. range_held f r (subst (Among r) e m)))

@@ -13,16 +13,16 @@ use Rattle.tests.proofs.Lemmas.{Rising, rising_lower, pairs_of}
 use Rattle.machine.proofs.Lemmas.{among_of, contains_of, among-left, among-right, among-either}
 use Rattle.machine.specs.Members.{Among}
 use Rattle.listing.specs.Listing.{lines, AreWordAddresses, IsListing}
-use Rattle.listing.specs.Addresses.{from_on, up, down, words_of, addresses}
+use Rattle.listing.specs.Addresses.{addresses_from, up, down, range_words, addresses}
 
 -- ---- in ascending order
-rising-from_on : (a n low : ℕ) (xs : List ℕ) → low ≤ a → Rising (a + 4 * n) xs → Rising low (from_on a n ++ xs)
+rising-from_on : (a n low : ℕ) (xs : List ℕ) → low ≤ a → Rising (a + 4 * n) xs → Rising low (addresses_from a n ++ xs)
 rising-from_on a zero low xs l r = rising_lower (a + 4 * 0) low xs (omega (arith, l)) r
 rising-from_on a (suc n) low xs l r =
     let e : a + 4 * suc n ≡ a + 4 + 4 * n = omega arith in
     (l, rising-from_on (a + 4) n (a + 1) xs (omega arith) (subst (λ m. Rising m xs) e r))
 
-rising_step : (start n low d : ℕ) (xs : List ℕ) → low ≤ start → low ≤ d → (0 < n → start + 4 * n ≤ d) → Rising d xs → Rising low (from_on start n ++ xs)
+rising_step : (start n low d : ℕ) (xs : List ℕ) → low ≤ start → low ≤ d → (0 < n → start + 4 * n ≤ d) → Rising d xs → Rising low (addresses_from start n ++ xs)
 rising_step start zero low d xs l k h r = rising_lower d low xs k r
 rising_step start (suc n) low d xs l k h r = rising-from_on start (suc n) low xs l (rising_lower d (start + 4 * suc n) xs (h (omega arith)) r)
 
@@ -42,11 +42,11 @@ record WordOf (start n a : ℕ) : Type 0 where
 word_later : (start n a : ℕ) → WordOf (start + 4) n a → WordOf start (suc n) a
 word_later start n a w = let b = w.below in let e = w.is in record { place = w.place + 1; below = omega (arith, b); is = omega (arith, e) }
 
-word_source : (start n a : ℕ) → Among a (from_on start n) → WordOf start n a
+word_source : (start n a : ℕ) → Among a (addresses_from start n) → WordOf start n a
 word_source start zero a m = absurd m
 word_source start (suc n) a m = ⊎_elim (λ e. record { place = 0; below = omega arith; is = omega (arith, e) }) (λ r. word_later start n a (word_source (start + 4) n a r)) m
 
-word_among : (start n place a : ℕ) → place < n → a ≡ start + 4 * place → Among a (from_on start n)
+word_among : (start n place a : ℕ) → place < n → a ≡ start + 4 * place → Among a (addresses_from start n)
 word_among start zero place a lt e = absurd (omega (arith, lt))
 word_among start (suc n) zero a lt e = inl (omega (arith, e))
 word_among start (suc n) (suc place) a lt e = inr (word_among (start + 4) n place a (omega (arith, lt)) (omega (arith, e)))
@@ -67,7 +67,7 @@ placed start end a place e lt = (omega (arith, e), omega (arith, e, lt))
 whole_start : (low done : ℕ) → done % 4 ≡ 0 → max (up low) done % 4 ≡ 0
 whole_start low done e = omega (arith, e)
 
-words_in : (a done : ℕ) (r : ℕ × ℕ) → done % 4 ≡ 0 → Among a (words_of done r) → (a % 4 ≡ 0) × (in_one a r ≡ true)
+words_in : (a done : ℕ) (r : ℕ × ℕ) → done % 4 ≡ 0 → Among a (range_words done r) → (a % 4 ≡ 0) × (in_one a r ≡ true)
 words_in a done r e m =
     let start = max (up r.0) done in
     let w = word_source start ((down r.1 - start) / 4) a m in
@@ -83,7 +83,7 @@ words_in a done r e m =
       divides : (start place : ℕ) → a ≡ start + 4 * place → start % 4 ≡ 0 → a % 4 ≡ 0
       divides start place is z = omega (arith, is, z)
 
-in_words : (a done : ℕ) (r : ℕ × ℕ) → done % 4 ≡ 0 → a % 4 ≡ 0 → done ≤ a → r.0 ≤ a → a < down r.1 → Among a (words_of done r)
+in_words : (a done : ℕ) (r : ℕ × ℕ) → done % 4 ≡ 0 → a % 4 ≡ 0 → done ≤ a → r.0 ≤ a → a < down r.1 → Among a (range_words done r)
 in_words a done r e f l from to =
     let start = max (up r.0) done in
     let u : up r.0 ≤ a = omega (arith, from, f) in
@@ -116,14 +116,14 @@ listed_in a done (r ∷ rs) e m =
     ⊎_elim
     (λ x. let p = words_in a done r e x in (p.0, or_left (in_one a r) (in_range a rs) p.1))
     (λ x. let p = listed_in a d rs (whole_done done r.1 e) x in (p.0, or_right (in_one a r) (in_range a rs) p.1))
-    (among-either a (words_of done r) (addresses d rs) m)
+    (among-either a (range_words done r) (addresses d rs) m)
 
 in_listed : (a done low : ℕ) (rs : List (ℕ × ℕ)) → Starts low rs → done % 4 ≡ 0 → a % 4 ≡ 0 → done ≤ a → in_range a rs ≡ true → Among a (addresses done rs)
 in_listed a done low [] s e f l h = absurd (false≢true h)
 in_listed a done low (r ∷ rs) s e f l h =
     ⊎_elim
-    (λ lt. among-left a (words_of done r) (addresses (max done (down r.1)) rs) (in_words a done r e f l from (omega (arith, lt, l))))
-    (λ le. among-right a (words_of done r) (addresses (max done (down r.1)) rs) (in_listed a (max done (down r.1)) r.0 rs s.1 (whole_done done r.1 e) f le (later le)))
+    (λ lt. among-left a (range_words done r) (addresses (max done (down r.1)) rs) (in_words a done r e f l from (omega (arith, lt, l))))
+    (λ le. among-right a (range_words done r) (addresses (max done (down r.1)) rs) (in_listed a (max done (down r.1)) r.0 rs s.1 (whole_done done r.1 e) f le (later le)))
     (cases_lt a (max done (down r.1)))
   where
     from : r.0 ≤ a

@@ -12,7 +12,7 @@ use Rattle.machine.specs.Members.{Among}
 use Rattle.tests.proofs.Lemmas.{among_load}
 use Rattle.listing.specs.Homes.{holds_range, IsHome, image_word, segment_word}
 use Rattle.listing.specs.Listing.{lines}
-use Rattle.listing.specs.Addresses.{from_on, up, down, words_of}
+use Rattle.listing.specs.Addresses.{addresses_from, up, down, range_words}
 use Rattle.listing.proofs.Lines.{same_lines}
 
 -- ---- bytes
@@ -35,7 +35,7 @@ word_is ls apart l a m from to =
 -- the lines of words of a segment
 pub home_lines :
     (ss : List Segment) (r : ℕ × ℕ) (s : Segment) (start count : ℕ) → AreApart (load_segments ss) → IsHome ss r s → s.address ≤ start → start + 4 * count ≤ s.address + s.memory
-    → lines (segment_word (load_segment s)) (from_on start count) ≡ lines (image_word (load_segments ss)) (from_on start count)
+    → lines (segment_word (load_segment s)) (addresses_from start count) ≡ lines (image_word (load_segments ss)) (addresses_from start count)
 home_lines ss r s start count apart h from to =
     same_lines (segment_word (load_segment s)) (image_word (load_segments ss)) start count
     (λ k lt. word_is (load_segments ss) apart (load_segment s) (start + 4 * k) (among_of (load_segment s) (load_segments ss) h.loaded) (omega (arith, from)) (omega (arith, to, lt)))
@@ -43,8 +43,8 @@ home_lines ss r s start count apart h from to =
 -- the lines of the words of a range that lies in the segment
 pub range_lines :
     (ss : List Segment) (r : ℕ × ℕ) (s : Segment) (first start end done : ℕ) (text more : List ℕ) → AreApart (load_segments ss) → IsHome ss r s → first ≡ up r.0 → start ≡ max first done
-    → end ≡ down r.1 → start < end → more ≡ text ++ lines (segment_word (load_segment s)) (from_on start ((end - start) / 4))
-    → more ≡ text ++ lines (image_word (load_segments ss)) (words_of done r)
+    → end ≡ down r.1 → start < end → more ≡ text ++ lines (segment_word (load_segment s)) (addresses_from start ((end - start) / 4))
+    → more ≡ text ++ lines (image_word (load_segments ss)) (range_words done r)
 range_lines ss r s first start end done text more apart h f b e lt m =
     let w = image_word (load_segments ss) in
     let from = h.from in
@@ -52,8 +52,8 @@ range_lines ss r s first start end done text more apart h f b e lt m =
     let begins : start ≡ max (up r.0) done = b ∙ ap (λ x. max x done) f in
     m
     ∙ ap (λ t. text ++ t) (home_lines ss r s start ((end - start) / 4) apart h (omega (arith, from, f, b)) (omega (arith, to, e, lt)))
-    ∙ ap (λ x. text ++ lines w (from_on x ((end - x) / 4))) begins
-    ∙ ap (λ x. text ++ lines w (from_on (max (up r.0) done) ((x - max (up r.0) done) / 4))) e
+    ∙ ap (λ x. text ++ lines w (addresses_from x ((end - x) / 4))) begins
+    ∙ ap (λ x. text ++ lines w (addresses_from (max (up r.0) done) ((x - max (up r.0) done) / 4))) e
 
 -- ---- a segment that was found
 pub is_home : (ss : List Segment) (r : ℕ × ℕ) (s : Segment) → AllFitMemory (load_segments ss) → Contains ss s → s.kind ≡ 1 → holds_range (load_segment s) r ≡ true → IsHome ss r s

@@ -14,7 +14,7 @@ abbrev pub is_held : ℕ × ℕ → List LoadSegment → Bool
 is_held r [] = false
 is_held r (l ∷ ls) = holds_range l r || is_held r ls
 
-pub record IsHeld (ls : List LoadSegment) (r : ℕ × ℕ) : Type 0 where
+pub record IsHeldRange (ls : List LoadSegment) (r : ℕ × ℕ) : Type 0 where
   pub is : is_held r ls ≡ true
 
 -- a segment is loaded, fits into memory, and the range lies in it

@@ -6,13 +6,13 @@ use Rattle.texts.specs.Printed.{hex_text, word_text}
 use Rattle.rv_text.specs.Text.{text_of}
 
 -- a code word stands at an address: a multiple of 4 whose four bytes lie in one code range
-abbrev pub has_word : ElfFile → ℕ → Bool
-has_word f a = (a % 4 == 0) && in_range a (ranges_of f)
+abbrev pub has_code_word : ElfFile → ℕ → Bool
+has_code_word f a = (a % 4 == 0) && in_range a (ranges_of f)
 
 -- all addresses of code words, in ascending order
 pub record AreWordAddresses (f : ElfFile) (addresses : List ℕ) : Type 0 where
   pub ascend : AllPairs (λ a b. a < b) addresses
-  pub all : (a : ℕ) → Contains addresses a ↔ (has_word f a ≡ true)
+  pub all : (a : ℕ) → Contains addresses a ↔ (has_code_word f a ≡ true)
 
 -- the line of a word: its text, its address and the word
 unfoldable pub line : ℕ → ℕ → List ℕ

@@ -1,11 +1,13 @@
 -- The words of new code with their roles: a line for each word, as in a listing, with its role instead of the word.
-use Rattle.std.specs.Prelude.{ℕ, ◌+◌, ◌-◌, ◌/◌, ◌==◌, ◌&&◌, ◌||◌, nat_lt, nat_le, not, Bool, false, if◌then◌else◌, Option, Some, None, List, [], ◌∷◌, ◌++◌, codes, take, drop}
+use Rattle.std.specs.Prelude.{ℕ, ◌+◌, ◌-◌, ◌/◌, ◌==◌, ◌&&◌, ◌||◌, nat_lt, nat_le, not, Bool, false, if◌then◌else◌, Option, Some, None, List, [], ◌∷◌, ◌++◌}
+use Rattle.std.specs.Prelude.{codes, take, drop}
 use Rattle.std.specs.Fmt.{decimal}
 use Rattle.rv_isa.specs.Operation.{pair}
 use Rattle.elf_types.specs.declared.file.Symbol.{Symbol}
 use Rattle.elf_types.specs.Symbol.{is_code_symbol}
 use Rattle.qed_model.specs.declared.role.Role.{Role}
-use Rattle.qed_model.specs.declared.role.Role.TheVariants.{Start, Entry, Original, Mirror, Guard, Compare, Visit, Leave, LeaveGuard, Sweep, End, Stub, Tick, Check, CheckCompare, CheckVisit, LookUp, Sign}
+use Rattle.qed_model.specs.declared.role.Role.TheVariants.{Start, Entry, Original, Mirror, Guard, Compare, Visit, Leave, LeaveGuard, Sweep, End, Stub, Tick}
+use Rattle.qed_model.specs.declared.role.Role.TheVariants.{Check, CheckCompare, CheckVisit, LookUp, Sign}
 use Rattle.qed_model.specs.declared.role.RoleRow.{RoleRow}
 use Rattle.listing.specs.declared.found.Found.{Found}
 use Rattle.listing.specs.declared.found.Found.TheVariants.{Differ, Signature, Ways, Caller, LookUps, Word}
@@ -139,12 +141,12 @@ found_line None = []
 found_line (Some found) = codes "fired: " ++ (found_text found ++ codes "\n")
 
 -- EBREAK: a check that fires runs it (RISC-V unprivileged ISA, 2.8)
-abbrev pub ebreak : ℕ
-ebreak = 1048691
+abbrev pub ebreak_word : ℕ
+ebreak_word = 1048691
 
 abbrev pub fired_text : Role → ℕ → List ℕ
-fired_text role w = if w == ebreak then found_line (found_by role) else []
+fired_text role w = if w == ebreak_word then found_line (found_by role) else []
 
 -- the line of a word, with its symbol, and for a check with what differed
-abbrev pub word_text : Role → ℕ → ℕ → List Symbol → List ℕ
-word_text role a w symbols = role_line role a w ++ (symbol_text (input_address role) symbols ++ fired_text role w)
+abbrev pub word_line : Role → ℕ → ℕ → List Symbol → List ℕ
+word_line role a w symbols = role_line role a w ++ (symbol_text (input_address role) symbols ++ fired_text role w)

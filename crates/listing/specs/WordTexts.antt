@@ -6,19 +6,19 @@ use Rattle.tests.specs.Elf.Layout.{written}
 use Rattle.listing.specs.Listing.{IsListing}
 use Rattle.rv_text.specs.Text.{text_of}
 use Rattle.rv_asm.specs.declared.error.AsmError.{AsmError}
-use Rattle.rv_asm.specs.Assembled.{Assembled, file_with}
+use Rattle.rv_asm.specs.Assembled.{Assembled, file_of_given}
 use Rattle.rv_asm.specs.Exact.{IsExact, IsOrMemory}
 use Rattle.rv_asm.specs.Lines.{newline, lines_of, statement}
 
 -- 1 to 16,384 words of 32 bits
-pub record AreWords (words : List ℕ) : Type 0 where
+pub record AreTextWords (words : List ℕ) : Type 0 where
   pub some : 1 ≤ length words
   pub few : length words ≤ 16384
   pub each : All (λ word. word < 2 ^ 32) words
 
 -- the file with these words as its code, no data and no labels
 abbrev pub words_file : List ℕ → List ℕ
-words_file words = written (file_with words [] [])
+words_file words = written (file_of_given words [] [])
 
 -- ---- one line for each word
 -- the text of each word, with a newline between two
@@ -31,16 +31,16 @@ IsTextOf words text = (text ≡ words_text words) ⊎ (text ≡ words_text words
 
 -- the text of the words assembles to their file
 abbrev pub WordsAssemble : Type 0
-WordsAssemble = (words text : List ℕ) → AreWords words → IsTextOf words text → Assembled text (words_file words)
+WordsAssemble = (words text : List ℕ) → AreTextWords words → IsTextOf words text → Assembled text (words_file words)
 
 -- the text of the words is within the limit of assemblies
 abbrev pub TextsAreShort : Type 0
-TextsAreShort = (words text : List ℕ) → AreWords words → IsTextOf words text → length text ≤ 67108864
+TextsAreShort = (words text : List ℕ) → AreTextWords words → IsTextOf words text → length text ≤ 67108864
 
 -- the file of the words is the only answer but Memory
 abbrev pub WordsAreAnswered : Type 0
 WordsAreAnswered =
-    (words text : List ℕ) (answer : Result (List ℕ) AsmError) → AreWords words → IsTextOf words text
+    (words text : List ℕ) (answer : Result (List ℕ) AsmError) → AreTextWords words → IsTextOf words text
     → IsExact text answer → IsOrMemory (Ok (words_file words)) answer
 
 -- ---- with comments, blanks and empty lines
@@ -57,10 +57,10 @@ pub record SaysWords (text words : List ℕ) : Type 0 where
 
 -- a text that says these texts assembles to the file of the words
 abbrev pub SayingsAssemble : Type 0
-SayingsAssemble = (words text : List ℕ) → AreWords words → SaysWords text words → Assembled text (words_file words)
+SayingsAssemble = (words text : List ℕ) → AreTextWords words → SaysWords text words → Assembled text (words_file words)
 
 -- the listing of a file assembles to the file of the words that it lists
 abbrev pub ListingsAssemble : Type 0
 ListingsAssemble =
-    (f : ElfFile) (text : List ℕ) (listing : IsListing f text) → AreWords (map (word_at f) listing.addresses)
+    (f : ElfFile) (text : List ℕ) (listing : IsListing f text) → AreTextWords (map (word_at f) listing.addresses)
     → Assembled text (words_file (map (word_at f) listing.addresses))

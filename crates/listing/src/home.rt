@@ -3,7 +3,7 @@ ghost use Rattle.std.specs.Prelude.{◌≡◌, ◌+◌, ◌≤◌, ◌^◌, true
 ghost use Rattle.machine.specs.Apart.{AllFitMemory};
 ghost use Rattle.machine.specs.Loading.{load_segment, load_segments};
 ghost use Rattle.tests.specs.Ranges.{span};
-ghost use Rattle.listing.specs.Homes.{holds_range, is_held, IsHeld, IsHome, segment_word};
+ghost use Rattle.listing.specs.Homes.{holds_range, is_held, IsHeldRange, IsHome, segment_word};
 
 use elf_types::Segment;
 use tests::{Span, word_in};
@@ -17,7 +17,8 @@ fn holds(segment: &Segment, range: Span) -> bool
 
 /// The first loaded segment in which a range lies.
 fn first_home<'a>(segments: &'a [Segment], range: Span) -> Option<&'a Segment>
-    ensures { MatchOption result (is_held (span range) (load_segments segments.now) ≡ false) (λ s. Contains segments.now s.now × (s.now.kind ≡ 1) × (holds_range (load_segment s.now) (span range) ≡ true)) }
+    ensures { MatchOption result (is_held (span range) (load_segments segments.now) ≡ false) (λ s.
+        Contains segments.now s.now × (s.now.kind ≡ 1) × (holds_range (load_segment s.now) (span range) ≡ true)) }
 {
     for segment in segments {
         if segment.is_load() && holds(segment, range) {
@@ -30,7 +31,7 @@ fn first_home<'a>(segments: &'a [Segment], range: Span) -> Option<&'a Segment>
 /// The loaded segment in which a range lies.
 pub fn home<'a>(segments: &'a [Segment], range: Span) -> &'a Segment
     requires fit { AllFitMemory (load_segments segments.now) }
-    requires held { IsHeld (load_segments segments.now) (span range) }
+    requires held { IsHeldRange (load_segments segments.now) (span range) }
     ensures { IsHome segments.now (span range) result.now }
 {
     first_home(segments, range).unwrap()

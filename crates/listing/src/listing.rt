@@ -4,9 +4,9 @@ ghost use Rattle.elf_types.specs.declared.file.Segment.{Segment as ElfSegment};
 ghost use Rattle.machine.specs.Apart.{AllFitMemory, AreApart};
 ghost use Rattle.machine.specs.Loading.{load_segment, load_segments};
 ghost use Rattle.tests.specs.Ranges.{span, spans};
-ghost use Rattle.listing.specs.Homes.{IsHeld, IsHome, image_word, segment_word};
+ghost use Rattle.listing.specs.Homes.{IsHeldRange, IsHome, image_word, segment_word};
 ghost use Rattle.listing.specs.Listing.{lines, IsListing};
-ghost use Rattle.listing.specs.Addresses.{up, down, from_on, words_of, addresses};
+ghost use Rattle.listing.specs.Addresses.{up, down, addresses_from, range_words, addresses};
 
 use crate::home::{home, segment_word};
 use crate::line::push_line;
@@ -24,7 +24,7 @@ fn push_words(
 ) -> Result<(), AllocError>
     requires above { segment.now.address ≤ start }
     requires small { start + 4 * count ≤ 2 ^ 64 }
-    ensures { OnOk result (text.new.items ≡ text.old.items ++ lines (segment_word (load_segment segment.now)) (from_on start count)) }
+    ensures { OnOk result (text.new.items ≡ text.old.items ++ lines (segment_word (load_segment segment.now)) (addresses_from start count)) }
 {
     for number in 0..count {
         let address = start + 4 * number;
@@ -57,8 +57,8 @@ fn push_range(
 ) -> Result<(), AllocError>
     requires fit { AllFitMemory (load_segments segments.now) }
     requires apart { AreApart (load_segments segments.now) }
-    requires held { IsHeld (load_segments segments.now) (span range) }
-    ensures { OnOk result (text.new.items ≡ text.old.items ++ lines (image_word (load_segments segments.now)) (words_of done (span range))) }
+    requires held { IsHeldRange (load_segments segments.now) (span range) }
+    ensures { OnOk result (text.new.items ≡ text.old.items ++ lines (image_word (load_segments segments.now)) (range_words done (span range))) }
 {
     let start = first_word(range).max(done);
     let end = last_word(range);
@@ -75,7 +75,7 @@ fn push_range(
 fn lines_of(alloc: Global, segments: &[Segment], ranges: &[Span]) -> Result<Vec<u8>, AllocError>
     requires fit { AllFitMemory (load_segments segments.now) }
     requires apart { AreApart (load_segments segments.now) }
-    requires held { All (λ r. IsHeld (load_segments segments.now) (span r)) ranges.now }
+    requires held { All (λ r. IsHeldRange (load_segments segments.now) (span r)) ranges.now }
     ensures { IfOk result (λ text. text.items ≡ lines (image_word (load_segments segments.now)) (addresses 0 (spans ranges.now))) }
 {
     let mut text = Vec::new(alloc);

@@ -2,7 +2,9 @@
 ghost use Rattle.std.specs.Prelude.{◌≡◌, ◌<◌, ◌++◌, None, IfOk, IsSome, OnOk};
 ghost use Rattle.std.specs.Option.{option_copied};
 ghost use Rattle.std.specs.Str.{is_utf8};
-ghost use Rattle.listing.specs.Roles.{role_at as role_at_of, rows_bytes, input_address as input_address_of, is_telling as is_telling_of, is_before as is_before_of, is_nearer as is_nearer_of, nearer as nearer_of, nearest as nearest_of, symbol_line, symbol_text, fired_text, word_text as word_text_of};
+ghost use Rattle.listing.specs.Roles.{role_at as role_at_of, rows_bytes, input_address as input_address_of, is_telling as is_telling_of};
+ghost use Rattle.listing.specs.Roles.{is_before as is_before_of, is_nearer as is_nearer_of, nearer as nearer_of, nearest as nearest_of, symbol_line};
+ghost use Rattle.listing.specs.Roles.{symbol_text, fired_text, word_line as word_text_of};
 
 use crate::Found;
 use crate::roles::push_role_line;

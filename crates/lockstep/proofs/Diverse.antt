@@ -7,6 +7,6 @@ use Rattle.lockstep.proofs.FormWords.{plan_caught, plan_clean}
 pub diverse_caught : DiverseCaught
 diverse_caught f g w most blocks bounds plan is eight closes some b = plan_caught f g w most blocks bounds plan (diverse_mirrors w is eight) closes some b
 
--- and with the sweep none is silent
+-- with the sweep no change is silent
 pub diverse_clean : DiverseClean
 diverse_clean f g w most blocks plan is eight closes some swept = plan_clean f g w most blocks plan (diverse_mirrors w is eight) closes some swept

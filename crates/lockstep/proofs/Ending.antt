@@ -98,7 +98,7 @@ module _ (g : Program) (w : World) (regs : List ℕ) where
         };
       }
 
-  -- those of a round from the word at y, by the numbers of their words
+  -- the visits of a round from the word at y, by the numbers of their words
   pub visits_in :
       (p m n round i j y : ℕ) → m ≤ n → ((k : ℕ) → k < m → (after_output g regs (p + k)).outcome ≡ Going)
       → ((j : ℕ) → j < round → 1 ≤ length w.form.spans → Visits w (after_output g regs p) m (words_on w.form.spans j y)) → AtNumber w.form.spans i y

@@ -1,4 +1,4 @@
--- Today's forms meet the laws of the words and of the entry, and so the promises of a plan follow from those of any weave.
+-- Today's forms meet the laws of the words and the entry, so the promises of a plan follow from those of any weave.
 use Rattle.std.proofs.Common.{◌≡◌, ℕ, zero, suc, ◌+◌, ◌*◌, ◌≤◌, List, [], ◌∷◌, ◌++◌, length, refl, sym, ap, ◌∙◌, subst, arith}
 use Rattle.std.proofs.Math.Nat.{mul-le-mul}
 use Rattle.qed_model.specs.Weave.Bounds.{visit_bound, word_bound}
@@ -11,7 +11,7 @@ use Rattle.weave_core.proofs.Lemmas.{enter_items, end_items, prologue_items, lan
 use Rattle.lockstep.specs.Closes.{Closes}
 use Rattle.lockstep.specs.Promise.{IsBoundsOf, PlanCaught, PlanClean}
 use Rattle.weave_core.specs.Leaving.{sweep_cost}
-use Rattle.weave_core.specs.Weave.{stage_steps, start_steps}
+use Rattle.weave_core.specs.Weave.{stage_steps, most_before_start}
 use Rattle.weave_core.specs.WeaveLaws.{Words}
 use Rattle.qed_model.specs.declared.bounds.Bounds.{Bounds}
 use Rattle.qed_model.specs.Promise.InStep.{CaughtInStep, CleanInStep}
@@ -46,7 +46,7 @@ pub caught_with :
     → PlanOf f g w (weave_with w.form most checks first steps) blocks → Mirrors w → MirrorsFit w.form.far w.form.mirror
     → OnlyCode f g w (weave_with w.form most checks first steps).code blocks → 1 ≤ w.form.round → first + 17 ≤ steps
     → BoundsOf w (weave_with w.form most checks first steps) bounds
-    → CaughtInStep f g w.reached w.form.spans bounds (start_steps (weave_with w.form most checks first steps)) (stage_steps (weave_with w.form most checks first steps))
+    → CaughtInStep f g w.reached w.form.spans bounds (most_before_start (weave_with w.form most checks first steps)) (stage_steps (weave_with w.form most checks first steps))
 caught_with f g w most checks first steps blocks bounds laws p law fit closed some room b =
     weave_caught f g w (weave_with w.form most checks first steps) blocks bounds p (rows_with w most checks first steps laws (begins_at blocks) law) (starts_with w most checks first steps laws (begins_at blocks) f g) (words_with w.form most checks first steps laws fit) closed some (omega arith) (omega (arith, room)) b
 
@@ -65,7 +65,7 @@ visits_ten spans n h = mul-le-mul (ten spans) h where
 pub stage_is : (w : World) (most : ℕ) → piece_of w.form most ≡ stage_steps (weave_of w.form most)
 stage_is w most = omega arith
 
-pub start_is : (w : World) (most : ℕ) → start_of w.form ≡ start_steps (weave_of w.form most)
+pub start_is : (w : World) (most : ℕ) → start_of w.form ≡ most_before_start (weave_of w.form most)
 start_is w most = omega arith
 
 -- the bounds of a form are those of its weave
@@ -80,22 +80,22 @@ pub plan_caught : PlanCaught
 plan_caught f g w most blocks bounds p law closes some b =
     let ten = visits_ten w.form.spans w.form.round some in
     subst (λ n. CaughtInStep f g w.reached w.form.spans bounds n (piece_of w.form most)) (sym (start_is w most))
-    (subst (λ n. CaughtInStep f g w.reached w.form.spans bounds (start_steps (weave_of w.form most)) n) (sym (stage_is w most))
+    (subst (λ n. CaughtInStep f g w.reached w.form.spans bounds (most_before_start (weave_of w.form most)) n) (sym (stage_is w most))
     (caught_with f g w most (both w most) 0 (both_steps w most) blocks bounds (form_checks w.form) p law closes.mirrors closes.only some (omega (arith, ten)) (bounds_in w most bounds b)))
 
--- also such at places that are open for Lock alone
+-- changes in a plan at places that are open for Lock alone are caught too
 pub plan_caught_all :
     (f g : Program) (w : World) (most : ℕ) (blocks : List Block) (bounds : Bounds) → PlanOf f g w (weave_of w.form most) blocks → Mirrors w → Closes f g w blocks → 1 ≤ w.form.round → IsBoundsOf w.form most bounds
-    → CaughtAll f g w (start_steps (weave_of w.form most)) (stage_steps (weave_of w.form most)) bounds
+    → CaughtAll f g w (most_before_start (weave_of w.form most)) (stage_steps (weave_of w.form most)) bounds
 plan_caught_all f g w most blocks bounds p law closes some b =
     let ten = visits_ten w.form.spans w.form.round some in
     catches_all f g w (weave_of w.form most) blocks p (form_rows w most (begins_at blocks) law) (form_starts w most (begins_at blocks) f g) (form_words w.form most closes.mirrors) closes.only some (omega arith) (omega (arith, ten)) bounds (bounds_in w most bounds b)
 
--- and the sweep lets none end silently
+-- the sweep lets no change end silently
 pub plan_clean : PlanClean
 plan_clean f g w most blocks p law closes some sweeps =
     let ten = visits_ten w.form.spans w.form.round some in
     let last = sweep_cost w.form.spans + 14 in
     subst (λ n. CleanInStep f g w.reached w.form.spans last n (piece_of w.form most)) (sym (start_is w most))
-    (subst (λ n. CleanInStep f g w.reached w.form.spans last (start_steps (weave_of w.form most)) n) (sym (stage_is w most))
+    (subst (λ n. CleanInStep f g w.reached w.form.spans last (most_before_start (weave_of w.form most)) n) (sym (stage_is w most))
     (weave_clean f g w (weave_of w.form most) blocks p (form_rows w most (begins_at blocks) law) (form_starts w most (begins_at blocks) f g) (form_words w.form most closes.mirrors) closes.only some (omega arith) (omega (arith, ten)) sweeps))

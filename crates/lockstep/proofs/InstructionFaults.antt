@@ -20,19 +20,20 @@ use Rattle.weave_core.specs.WeavePromise.{PlanOf, BoundsOf}
 use Rattle.weave_core.specs.WeaveForms.{weave_of}
 use Rattle.weave_core.specs.Rows.{Mirrors}
 use Rattle.weave_core.specs.Promise.{piece_of, start_of}
-use Rattle.weave_core.specs.Weave.{start_steps, stage_steps}
+use Rattle.weave_core.specs.Weave.{most_before_start, stage_steps}
 use Rattle.machine.specs.Loading.{loaded_file}
 use Rattle.tests.specs.Admission.Places.{image_of}
 use Rattle.weave_core.specs.World.{World, Going, put, number, Program, start, AreStartRegs, State, reg, moved, stored, next_pc, place, Known, next, step, run, Kind, Lb, set_reg, width_of}
 use Rattle.weave_core.proofs.Lemmas.{mirrors_of, form_rows, form_starts, width_le, known_same}
 use Rattle.weave_core.proofs.TestKept as kept
 use Rattle.lockstep.specs.Closes.{Closes}
-use Rattle.qed_model.specs.Promise.Faults.{WritesOriginal, StoresOriginal, word_around, GivesAny, StoresAny, FaultsFound}
+use Rattle.qed_model.specs.Promise.Faults.{WritesOriginal, StoresOriginal, word_around, GivesAny, StoresAny, misled, FaultsFound}
 use Rattle.lockstep.specs.InstructionFaults.{InstructionFaultsAreCaught}
 use Rattle.lockstep.specs.Promise.{IsBoundsOf}
 use Rattle.lockstep.proofs.FormWords.{form_words, bounds_in, plan_caught_all, stage_is, start_is}
 use Rattle.lockstep.proofs.Promise.{CaughtAll}
 use Rattle.lockstep.specs.Laws.{OpenAt}
+use Rattle.lockstep.proofs.Doom.{fires_break}
 use Rattle.lockstep.proofs.Made.{changed_later}
 use Rattle.lockstep.proofs.Calm.{CalmCode, loaded_at, quiet_run}
 use Rattle.lockstep.proofs.Weaves.{calm_plan}
@@ -40,6 +41,7 @@ use Rattle.lockstep.proofs.Sets.{word_below}
 use Rattle.lockstep.proofs.Tests as tests
 use Rattle.lockstep.proofs.WrongSteps.{opens_behind, writes_straight, Wrote, wrote, stored_step, any_struck, changed_there, unchanged_before, with_one, with_two, found_out}
 use Rattle.lockstep.proofs.WrongStores.{IsBeside, two_words, any_beside, struck_words}
+use Rattle.lockstep.proofs.WrongWays.{wrong_way}
 
 -- an access has a byte
 width_some : (k : Kind) → 1 ≤ width_of k
@@ -142,6 +144,8 @@ pub faults_found :
 faults_found f g w before per bounds code big wide caught = record {
   results = λ regs n i o are go at wr any steady. results f g w before per code bounds big wide caught regs are n i go at o wr any steady;
   stores = λ regs n x i o are go at so any bound steady. stores f g w before per code bounds big wide caught regs are n i go at o x so any bound steady;
+  comparisons = λ regs n i go brk. fires_break (misled i (run (start g regs) n)) go brk;
+  branches = λ regs n i are go at checked covered. wrong_way f g w before per code regs are n i go at checked covered;
 }
 
 -- ---- in a plan of a form
@@ -150,9 +154,9 @@ pub plan_faults :
     → FaultsFound f g w.reached w.form.spans bounds (start_of w.form) (piece_of w.form most)
 plan_faults f g w most blocks bounds p law closes some b =
     subst (λ n. FaultsFound f g w.reached w.form.spans bounds n (piece_of w.form most)) (sym (start_is w most))
-    (subst (λ n. FaultsFound f g w.reached w.form.spans bounds (start_steps (weave_of w.form most)) n) (sym (stage_is w most))
-    (faults_found f g w (start_steps (weave_of w.form most)) (stage_steps (weave_of w.form most)) bounds code big wide (plan_caught_all f g w most blocks bounds p law closes some b))) where
-      code : CalmCode f g w (start_steps (weave_of w.form most)) (stage_steps (weave_of w.form most))
+    (subst (λ n. FaultsFound f g w.reached w.form.spans bounds (most_before_start (weave_of w.form most)) n) (sym (stage_is w most))
+    (faults_found f g w (most_before_start (weave_of w.form most)) (stage_steps (weave_of w.form most)) bounds code big wide (plan_caught_all f g w most blocks bounds p law closes some b))) where
+      code : CalmCode f g w (most_before_start (weave_of w.form most)) (stage_steps (weave_of w.form most))
       code = calm_plan f g w (weave_of w.form most) blocks p (form_rows w most (begins_at blocks) law).rows (form_starts w most (begins_at blocks) f g) (form_words w.form most closes.mirrors) closes.only (omega arith)
 
       are_bounds : BoundsOf w (weave_of w.form most) bounds
@@ -165,7 +169,7 @@ plan_faults f g w most blocks bounds p law closes some b =
       big = omega (arith, are_bounds.register)
 
       wide : (n : ℕ) → bounds.word ≡ Some n → 2 ≤ n
-      wide n e = big_word (word_count w.form.spans) w.form.round (start_steps (weave_of w.form most)) (stage_steps (weave_of w.form most)) n big_piece (sym are_bounds.word ∙ e)
+      wide n e = big_word (word_count w.form.spans) w.form.round (most_before_start (weave_of w.form most)) (stage_steps (weave_of w.form most)) n big_piece (sym are_bounds.word ∙ e)
 
 -- ---- of each test
 pub instruction_faults_are_caught : InstructionFaultsAreCaught

@@ -7,7 +7,7 @@ use Rattle.weave_core.specs.Lock.{visit_load, ComparesFrom}
 use Rattle.weave_core.specs.World.{World, Going, Ended, State, place, Fetched, Known, run, Program, start as from_regs}
 use Rattle.lockstep.specs.Settling.{AtCompare}
 
--- the place of the cursor in a round of so many words, one word on
+-- the place of the cursor in a round of `words` words, one word on
 abbrev pub bump : ℕ → ℕ → ℕ
 bump words i = cond (i + 1 == words) 0 (i + 1)
 
@@ -25,8 +25,8 @@ pub record VisitOf (c : ℕ → Fetched) (s : State) (n a : ℕ) : Type 0 where
   pub first : c (run s n).pc ≡ Known (visit_load base offset)
   pub cursor : place (visit_load base offset) (run s n) ≡ a
 
--- the most steps from a boundary to the next, from a boundary to behind a comparison with four left, and of what runs before the end
--- besides; the words of a round, and the words of the visits between two boundaries
+-- the most steps from a boundary to the next, from a boundary to behind a comparison with four left, and of what else
+-- runs before the end. Then the words of a round, and the words of the visits between two boundaries
 pub record Sizes : Type 0 where
   pub piece : ℕ
   pub check : ℕ
@@ -34,7 +34,7 @@ pub record Sizes : Type 0 where
   pub words : ℕ
   pub round : ℕ
 
--- such a visit begins after a number of steps in between
+-- a visit of the word at a begins between two numbers of steps
 pub record VisitIn (c : ℕ → Fetched) (s : State) (from to a : ℕ) : Type 0 where
   pub at : ℕ
   pub late : from ≤ at
@@ -49,13 +49,13 @@ pub record NextSteps (c : ℕ → Fetched) (s : State) (z : Sizes) (word : ℕ �
   pub visits : (j : ℕ) → j < z.round → VisitIn c s p (p + length) (word (advance z.words j i))
   pub next : Boundary (p + length) (advance z.words z.round i)
 
--- or the test ends before the next, in so many steps with four left
+-- or the test ends before the next, in at most `most` steps, four of them left
 pub record EndsSoon (s : State) (p most : ℕ) : Type 0 where
   pub at : ℕ
   pub room : at + 4 ≤ most
   pub ended : (run s (p + at)).outcome ≡ Ended
 
--- and there is one comparison
+-- the steps of a piece: a comparison, and the next boundary or the end
 pub record PieceSteps (c : ℕ → Fetched) (s : State) (z : Sizes) (word : ℕ → ℕ) (horizon : ℕ) (Boundary : ℕ → ℕ → Type 0) (p i : ℕ) : Type 0 where
   pub compare : ℕ
   pub room : compare + 17 ≤ z.check
@@ -71,7 +71,7 @@ pub record Trace (c : ℕ → Fetched) (s : State) (z : Sizes) (word : ℕ → �
   pub inside : (p i : ℕ) → Boundary p i → i < z.words ⊎ (z.words ≡ 0)
   pub goes_on : (p i : ℕ) → Boundary p i → p + z.check ≤ horizon → PieceSteps c s z word horizon Boundary p i ⊎ EndsSoon s p (z.check + z.last)
 
--- the test ends after e steps, the last of which are so many in which each data word is visited, the comparison and the end
+-- the test ends after e steps; the last `sweep_steps` visit each data word, compare all registers, and end
 pub record SweptEnd (w : World) (g : Program) (regs : List ℕ) (sweep_steps e : ℕ) : Type 0 where
   pub start : ℕ
   pub exact : start + (sweep_steps + 14) ≡ e

@@ -10,7 +10,7 @@ use Rattle.qed_model.specs.Weave.Pieces.{piece_count}
 use Rattle.qed_model.specs.Weave.Sequences.{Block, End, Falls, Stops, Ins, Class, class_of}
 use Rattle.weave_core.specs.Blocks.{Leaves, EndStands}
 use Rattle.weave_core.specs.KindItems.{AllBlocks, IsEnd, end_branches, end_jumps, end_jumps_reg, end_ends, end_illegal, AllPieces, GoodEnd}
-use Rattle.weave_core.specs.Weave.{Weave, start_steps, stage_steps}
+use Rattle.weave_core.specs.Weave.{Weave, most_before_start, stage_steps}
 use Rattle.weave_core.specs.WeaveLaws.{CheckedRows, Rows, Starts, Words, PiecesAt}
 use Rattle.weave_core.specs.WeavePromise.{AllBlocksOf, PlanOf, OnlyCode, BoundsOf, WeaveCaught, WeaveClean}
 use Rattle.weave_core.specs.World.{World, Program}
@@ -55,7 +55,7 @@ all_blocks w v leader (b ∷ bs) g = let x = whole w v leader b.body b.end b.sta
 -- ---- the code of a plan
 pub calm_plan :
     (f g : Program) (w : World) (v : Weave) (blocks : List Block) → PlanOf f g w v blocks → Rows w v (begins_at blocks) → Starts f g w v (begins_at blocks)
-    → Words w.form.far v → OnlyCode f g w v.code blocks → 1 ≤ v.piece_steps → CalmCode f g w (start_steps v) (stage_steps v)
+    → Words w.form.far v → OnlyCode f g w v.code blocks → 1 ≤ v.piece_steps → CalmCode f g w (most_before_start v) (stage_steps v)
 calm_plan f g w v blocks plan rows starts law closes some =
     let good = all_blocks w v (begins_at blocks) blocks plan.good in
     let woven = plan_in f g w v blocks plan rows starts in
@@ -78,8 +78,8 @@ module _ (f g : Program) (w : World) (v : Weave) (blocks : List Block) (plan : P
   woven : WeaveIn f g w v (begins_at blocks)
   woven = plan_in f g w v blocks plan rows.rows starts
 
-  -- its code is calm
-  code : CalmCode f g w (start_steps v) (stage_steps v)
+  -- the code of the output is calm
+  code : CalmCode f g w (most_before_start v) (stage_steps v)
   code = calm_plan f g w v blocks plan rows.rows starts law closes (omega (arith, room))
 
   -- the sizes of the trace
@@ -93,24 +93,24 @@ module _ (f g : Program) (w : World) (v : Weave) (blocks : List Block) (plan : P
   by : (bounds : Bounds) → BoundsOf w v bounds → BoundsBy w z v.round v.first_steps bounds
   by bounds are = record {
     register = let r = are.register in omega (arith, r);
-    word = λ h. are.word ∙ word_bound_is (word_count w.form.spans) v.round (start_steps v) (stage_steps v) h ∙ ap Some (omega arith);
+    word = λ h. are.word ∙ word_bound_is (word_count w.form.spans) v.round (most_before_start v) (stage_steps v) h ∙ ap Some (omega arith);
   }
 
   -- changes are caught
-  pub catches_all : (bounds : Bounds) → BoundsOf w v bounds → CaughtAll f g w (start_steps v) (stage_steps v) bounds
+  pub catches_all : (bounds : Bounds) → BoundsOf w v bounds → CaughtAll f g w (most_before_start v) (stage_steps v) bounds
   catches_all bounds are = record {
     settles = λ regs cs b start ordered free bound steady going.
-        settles_all f g w (start_steps v) (stage_steps v) code regs start z v.round v.first_steps (Bound f g w v (begins_at blocks) rows woven two room regs start) times (traced f g w v (begins_at blocks) rows woven two room regs start) bounds (by bounds are) cs b ordered free bound steady going;
+        settles_all f g w (most_before_start v) (stage_steps v) code regs start z v.round v.first_steps (Bound f g w v (begins_at blocks) rows woven two room regs start) times (traced f g w v (begins_at blocks) rows woven two room regs start) bounds (by bounds are) cs b ordered free bound steady going;
   }
 
-  pub catches : (bounds : Bounds) → BoundsOf w v bounds → CaughtInStep f g w.reached w.form.spans bounds (start_steps v) (stage_steps v)
-  catches bounds are = caught_of f g w (start_steps v) (stage_steps v) bounds code (catches_all bounds are)
+  pub catches : (bounds : Bounds) → BoundsOf w v bounds → CaughtInStep f g w.reached w.form.spans bounds (most_before_start v) (stage_steps v)
+  catches bounds are = caught_of f g w (most_before_start v) (stage_steps v) bounds code (catches_all bounds are)
 
   -- with the sweep none ends silently
-  pub cleans : v.sweeps ≡ true → CleanInStep f g w.reached w.form.spans (v.sweep_steps + 14) (start_steps v) (stage_steps v)
+  pub cleans : v.sweeps ≡ true → CleanInStep f g w.reached w.form.spans (v.sweep_steps + 14) (most_before_start v) (stage_steps v)
   cleans sweeps = record {
     settles = λ regs cs e start ordered free early ended first steady.
-        cleaned f g w (start_steps v) (stage_steps v) code v.sweep_steps regs start cs e ordered free early ended first steady (λ always going. swept_end f g w v (begins_at blocks) rows woven two room regs start e always sweeps ended going);
+        cleaned f g w (most_before_start v) (stage_steps v) code v.sweep_steps regs start cs e ordered free early ended first steady (λ always going. swept_end f g w v (begins_at blocks) rows woven two room regs start e always sweeps ended going);
   }
 
 pub weave_caught : WeaveCaught

@@ -1,5 +1,5 @@
 -- A wrong instruction as changes right behind it.
-use Rattle.std.proofs.Common.{◌≡◌, ℕ, zero, suc, ◌+◌, ◌-◌, ◌<◌, ◌≤◌, ◌⊎◌, inl, inr, ⊎_elim, Bool, true, false, cond, List, [], ◌∷◌, refl, sym, ap, ◌∙◌, subst, arith}
+use Rattle.std.proofs.Common.{◌≡◌, ℕ, zero, suc, ◌+◌, ◌-◌, ◌<◌, ◌≤◌, ⊎_elim, Bool, true, false, cond, List, [], ◌∷◌, refl, sym, ap, ◌∙◌, subst, arith}
 use Rattle.std.specs.Prelude.{slice_index}
 use Rattle.std.proofs.lemmas.Bool.{false≢true, cases_Bool, cases_lt, eq-eqb, ne_eqb}
 use Rattle.std.proofs.lemmas.List.{set-set, set-get_or}
@@ -131,7 +131,7 @@ unchanged_before s cs (suc n) h =
     let next : n + 1 ≡ suc n = omega arith in
     none_yet (suc n) cs (step (changed_run s cs n)) h ∙ ap step (unchanged_before s cs n (behind_less n cs h)) ∙ sym (run-last s n) ∙ ap (run s) next
 
--- and one step on they are made
+-- one step on the changes are made
 pub changed_there : (s : State) (cs : List Change) (n : ℕ) → AllBehind n cs → changed_run s cs (n + 1) ≡ with_changes cs (n + 1) (run s (n + 1))
 unfolding changed_run
 changed_there s cs n h =
@@ -146,7 +146,7 @@ pub with_one : (c : Change) (n : ℕ) (u : State) → c.step ≡ n → u.outcome
 unfolding with_changes
 with_one c n u e go = ap (λ b. cond b (changed c u) u) (eq-eqb c.step n e) ∙ ap (λ o. changed_as o c u) go
 
--- and two, of words
+-- two changes, of words
 pub with_two :
     (c d : Change) (n : ℕ) (u : State) → c.step ≡ n → d.step ≡ n → u.outcome ≡ Going → (struck c.place c.value u).outcome ≡ Going
     → with_changes (c ∷ d ∷ []) n u ≡ struck d.place d.value (struck c.place c.value u)

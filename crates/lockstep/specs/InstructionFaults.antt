@@ -12,9 +12,11 @@ use Rattle.qed_model.specs.Weave.Sequences.{Block}
 use Rattle.qed_model.specs.Weave.Woven.{compared, woven_file, IsToldOf}
 use Rattle.weave_core.specs.Tests.{IsWovenTest}
 
--- of each test that was woven, with the bounds that are told of it
+-- of each test that was woven, with the bounds of its plan
 abbrev pub InstructionFaultsAreCaught : Type 0
 InstructionFaultsAreCaught =
-    (f : ElfFile) (o : Options) (blocks : List Block) (words : List ℕ) (plan : Plan) → IsWovenTest f o blocks words → IsToldOf (compared f o blocks) f o blocks plan
+    (f : ElfFile) (o : Options) (blocks : List Block) (words : List ℕ) (plan : Plan) → IsWovenTest f o blocks words
+    → IsToldOf (compared f o blocks) f o blocks plan
     → (reached : ℕ → Bool) → AreReached f o reached
-    → FaultsFound (loaded_file f) (loaded_file (file_read (woven_file f o blocks words))) reached (data_ranges (image_of f)) plan.bounds plan.bounds.start plan.bounds.piece
+    → FaultsFound (loaded_file f) (loaded_file (file_read (woven_file f o blocks words))) reached
+    (data_ranges (image_of f)) plan.bounds plan.bounds.start plan.bounds.piece

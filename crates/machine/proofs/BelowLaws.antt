@@ -5,10 +5,10 @@ use Rattle.std.proofs.lemmas.Bool.{cases_lt}
 use Rattle.std.proofs.lemmas.List.{length-append, append-nil}
 use Rattle.std.proofs.lemmas.List.Elements.{All-nil, All-push}
 use Rattle.std.proofs.lemmas.Option.{same_Some}
-use Rattle.machine.specs.Below.{first, first_from, IsFirstBelow, each, gather}
+use Rattle.machine.specs.Below.{first_below, first_passing, IsFirstBelow, each, gather}
 
 -- ---- the first that passes
-from_found : (n : ℕ) (p : ℕ → Bool) (k i : ℕ) → k ≤ i → i < k + n → p i ≡ true → ((j : ℕ) → j < i → p j ≡ false) → first_from p k n ≡ Some i
+from_found : (n : ℕ) (p : ℕ → Bool) (k i : ℕ) → k ≤ i → i < k + n → p i ≡ true → ((j : ℕ) → j < i → p j ≡ false) → first_passing p k n ≡ Some i
 from_found zero p k i le lt here before = absurd (omega arith)
 from_found (suc n) p k i le lt here before =
     elim (cases_lt k i) [
@@ -16,35 +16,35 @@ from_found (suc n) p k i le lt here before =
       | inr above ↦ let e : k ≡ i = omega arith in rw (e, here) refl
     ]
 
-from_none : (n : ℕ) (p : ℕ → Bool) (k : ℕ) → ((j : ℕ) → j < k + n → p j ≡ false) → first_from p k n ≡ None
+from_none : (n : ℕ) (p : ℕ → Bool) (k : ℕ) → ((j : ℕ) → j < k + n → p j ≡ false) → first_passing p k n ≡ None
 from_none zero p k never = refl
 from_none (suc n) p k never =
     let rest = from_none n p (k + 1) (λ j lt. never j (omega arith)) in
     rw (never k (omega arith)) rest
 
 -- what passes, with none before it that does, is the first
-pub first_found : (n : ℕ) (p : ℕ → Bool) (i : ℕ) → i < n → p i ≡ true → ((j : ℕ) → j < i → p j ≡ false) → first n p ≡ Some i
-unfolding first
+pub first_found : (n : ℕ) (p : ℕ → Bool) (i : ℕ) → i < n → p i ≡ true → ((j : ℕ) → j < i → p j ≡ false) → first_below n p ≡ Some i
+unfolding first_below
 first_found n p i lt here before = from_found n p 0 i (omega arith) (omega arith) here before
 
--- where none passes there is no first
-pub first_none : (n : ℕ) (p : ℕ → Bool) → ((j : ℕ) → j < n → p j ≡ false) → first n p ≡ None
-unfolding first
+-- if none passes, `first` gives None
+pub first_none : (n : ℕ) (p : ℕ → Bool) → ((j : ℕ) → j < n → p j ≡ false) → first_below n p ≡ None
+unfolding first_below
 first_none n p never = from_none n p 0 (λ j lt. never j (omega arith))
 
--- the same two of a test of which a relation is known
+-- the first that passes, found by a relation of numbers and answers
 pub some_is : (post : ℕ → Bool → Type 0) (n i : ℕ) → i < n → post i true → ((k : ℕ) → k < i → post k false) → (p : ℕ → Bool)
-    → ((j : ℕ) (b : Bool) → j < n → post j b → b ≡ p j) → Some i ≡ first n p
+    → ((j : ℕ) (b : Bool) → j < n → post j b → b ≡ p j) → Some i ≡ first_below n p
 some_is post n i lt here before p is = sym (first_found n p i lt (sym (is i true lt here)) (λ k below. sym (is k false (omega arith) (before k below))))
 
 pub none_is : (post : ℕ → Bool → Type 0) (n : ℕ) → ((k : ℕ) → k < n → post k false) → (p : ℕ → Bool)
-    → ((j : ℕ) (b : Bool) → j < n → post j b → b ≡ p j) → None ≡ first n p
+    → ((j : ℕ) (b : Bool) → j < n → post j b → b ≡ p j) → None ≡ first_below n p
 none_is post n before p is = sym (first_none n p (λ k below. sym (is k false below (before k below))))
 
-from_each : (n : ℕ) (p : ℕ → Bool) (k j : ℕ) → first_from p k n ≡ None → k ≤ j → j < k + n → p j ≡ false
+from_each : (n : ℕ) (p : ℕ → Bool) (k j : ℕ) → first_passing p k n ≡ None → k ≤ j → j < k + n → p j ≡ false
 from_each zero p k j none le lt = absurd (omega arith)
 from_each (suc n) p k j none le lt =
-    elim (p k) as (λ b. p k ≡ b → cond b (Some k) (first_from p (k + 1) n) ≡ None → p j ≡ false) [
+    elim (p k) as (λ b. p k ≡ b → cond b (Some k) (first_passing p (k + 1) n) ≡ None → p j ≡ false) [
       | true ↦ λ e found. absurd cc
       | false ↦ λ e rest. elim (cases_lt k j) [
         | inl below ↦ from_each n p (k + 1) j rest (omega arith) (omega arith)
@@ -52,9 +52,9 @@ from_each (suc n) p k j none le lt =
       ]
     ] refl none
 
--- where there is no first, each fails
-pub each_fails : (n : ℕ) (p : ℕ → Bool) → first n p ≡ None → (j : ℕ) → j < n → p j ≡ false
-unfolding first
+-- if `first` gives None, each fails
+pub each_fails : (n : ℕ) (p : ℕ → Bool) → first_below n p ≡ None → (j : ℕ) → j < n → p j ≡ false
+unfolding first_below
 each_fails n p none j lt = from_each n p 0 j none (omega arith) (omega arith)
 
 record From (n : ℕ) (p : ℕ → Bool) (k i : ℕ) : Type 0 where
@@ -63,10 +63,10 @@ record From (n : ℕ) (p : ℕ → Bool) (k i : ℕ) : Type 0 where
   passes : p i ≡ true
   least : (j : ℕ) → k ≤ j → j < i → p j ≡ false
 
-from_least : (n : ℕ) (p : ℕ → Bool) (k i : ℕ) → first_from p k n ≡ Some i → From n p k i
+from_least : (n : ℕ) (p : ℕ → Bool) (k i : ℕ) → first_passing p k n ≡ Some i → From n p k i
 from_least zero p k i e = absurd cc
 from_least (suc n) p k i e =
-    elim (p k) as (λ b. p k ≡ b → cond b (Some k) (first_from p (k + 1) n) ≡ Some i → From (suc n) p k i) [
+    elim (p k) as (λ b. p k ≡ b → cond b (Some k) (first_passing p (k + 1) n) ≡ Some i → From (suc n) p k i) [
       | true ↦ λ t h.
           let same : k ≡ i = same_Some k i h in
           record { above = omega arith; below = omega arith; passes = rw (← same) t; least = λ j le lt. absurd (omega arith) }
@@ -81,8 +81,8 @@ from_least (suc n) p k i e =
     ] refl e
 
 -- the first passes, and none before it does
-pub first_least : (n : ℕ) (p : ℕ → Bool) (i : ℕ) → first n p ≡ Some i → IsFirstBelow n p i
-unfolding first
+pub first_least : (n : ℕ) (p : ℕ → Bool) (i : ℕ) → first_below n p ≡ Some i → IsFirstBelow n p i
+unfolding first_below
 first_least n p i e =
     let r = from_least n p 0 i e in
     record { below = omega (arith, r.below); passes = r.passes; least = λ k lt. r.least k (omega arith) lt }
@@ -105,7 +105,7 @@ length-each (suc n) f = omega (arith, length-append (each n f) (f n ∷ []), len
 pub push_each : {A : Type 0} (n : ℕ) (f : ℕ → A) (xs ys : List A) (x : A) → ys ≡ xs ++ x ∷ [] → xs ≡ each n f → x ≡ f n → ys ≡ each (n + 1) f
 push_each n f xs ys x e so_far is = rw (e, so_far, is, each_more) refl
 
--- the same behind a front
+-- the list of such a loop, behind a front
 pub each_front : {A : Type 0} (f : ℕ → A) (xs : List A) → xs ≡ xs ++ each 0 f
 each_front f xs = rw (← each_none f) (sym (append-nil xs))
 

@@ -1,4 +1,4 @@
--- Look-ups in the memory of segments. Where all segments that have an address have the same there, their order does not matter.
+-- Look-ups in the memory of segments. If all segments that have an address agree there, their order does not matter.
 use Rattle.std.proofs.Common.{◌≡◌, ◌≢◌, ◌⊎◌, inl, inr, ⊎_elim, ℕ, zero, suc, ◌+◌, ◌-◌, ◌^◌, ◌*◌, ◌<◌, ◌≤◌, Bool, true, false, cond, ◌&&◌, List, [], ◌∷◌, ◌++◌, length, Option, Some, None, refl, sym, ap, ◌∙◌, arith}
 use Rattle.std.specs.Prelude.{nat_lt, nat_le, ◌==◌, slice_index, replicate, map}
 use Rattle.std.specs.FinMap.{get, find}
@@ -182,7 +182,7 @@ has-moved s d q = grind (arith, nat_tests)
 cell-moved : (s : LoadSegment) (d q : ℕ) → cell_at (moved_by d s) (q + d) ≡ cell_at s q
 cell-moved s d q = let e : (q + d) - (s.address + d) ≡ q - s.address = omega arith in ap (λ k. cell (slice_index s.bytes k) s.flags) e
 
--- the same cells stand at the distance
+-- among segments that are moved, cells stand at the distance
 pub among-moved : (ss : List LoadSegment) (d q : ℕ) → cell_among (map (moved_by d) ss) (q + d) ≡ cell_among ss q
 among-moved [] d q = refl
 among-moved (s ∷ ss) d q =

@@ -64,7 +64,7 @@ is_zero-true : (z : ℤ) → is_zero z ≡ true → pos 0 ≡ z
 is_zero-true (pos x) e = ap pos (sym (eqb-true x 0 e))
 is_zero-true (negsuc x) e = absurd (cc)
 
--- decoding and encoding in one format: an instruction that was decoded is encoded as its word (encoded), and a word that was encoded has 32 bits (bounded), fits the row (masked) and is decoded as its instruction (decoded)
+-- in a format, decoded instructions are encoded as their words; encoded words are bounded, masked and decoded again
 pub record Joined (f : Format) : Type 0 where
   pub encoded : (k : Kind) (w m : ℕ) → w < 2 ^ 32 → bit_and w (mask_of f) ≡ m → word_of f m (ins_of f k w) ≡ Some w
   pub bounded : (i : Ins) (m w : ℕ) → m < 2 ^ 32 → bit_and m (mask_of f) ≡ m → word_of f m i ≡ Some w → w < 2 ^ 32

@@ -1,7 +1,7 @@
--- Which registers an instruction writes and reads is what its kind's format says, except that FENCE, whose format is I, names none.
+-- An instruction writes and reads the registers that its kind's format names, but FENCE, of format I, names none.
 use Rattle.std.proofs.Common.{◌≡◌, Bool, true, false, not, ◌&&◌, refl, sym, ap}
 use Rattle.rv_isa.specs.Kind.{class_of, writes_rd, reads_rs1, reads_rs2}
-use Rattle.rv_isa.specs.Ins.{named}
+use Rattle.rv_isa.specs.Ins.{named_register}
 use Rattle.machine.proofs.EachKind.{each_kind}
 use Rattle.machine.specs.Table.{Kind, row_of}
 use Rattle.machine.specs.Operands.{has_rd, has_rs1, has_rs2, is_fence, OperandsGoByFormat}
@@ -32,6 +32,6 @@ reads_rs2-format k = agree-true _ _ (each_kind (λ k. agree (reads_rs2 (class_of
 
 pub by_format : OperandsGoByFormat
 by_format = record {
-  written = λ i. ap (λ b. named b i.rd) (writes_rd-format i.kind);
+  written = λ i. ap (λ b. named_register b i.rd) (writes_rd-format i.kind);
   read = λ i. rw (reads_rs1-format i.kind, reads_rs2-format i.kind) refl;
 }

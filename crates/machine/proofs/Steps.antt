@@ -16,7 +16,7 @@ pub step-known : (s : State) (i : Ins) → s.outcome ≡ Going → next s ≡ Kn
 unfolding step
 step-known s i g n = ap (λ o. step_at o s) g ∙ ap (λ f. act f s) n
 
--- the same by its class
+-- the instruction at the pc is executed by its class
 pub step-class : (s : State) (i : Ins) (k : Class) → s.outcome ≡ Going → next s ≡ Known i → class_of i.kind ≡ k → step s ≡ execute k i s
 step-class s i k g n c = step-known s i g n ∙ ap (λ k. execute k i s) c
 

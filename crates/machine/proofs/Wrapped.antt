@@ -20,7 +20,7 @@ pub wrapped-lt : (z : ℤ) → wrapped z < 2 ^ 64
 wrapped-lt (pos x) = omega arith
 wrapped-lt (negsuc x) = omega arith
 
--- the same for a difference of two numbers
+-- a difference of two numbers, wrapped
 wrapped-sub_ℕ : (a b : ℕ) → wrapped (sub_ℕ a (suc b)) ≡ (a % 2 ^ 64 + (2 ^ 64 - suc (b % 2 ^ 64))) % 2 ^ 64
 wrapped-sub_ℕ a b =
     elim (nat_lt a (suc b)) as (λ t. nat_lt a (suc b) ≡ t → wrapped (cond t (negsuc (suc b - suc a)) (pos (a - suc b))) ≡ (a % 2 ^ 64 + (2 ^ 64 - suc (b % 2 ^ 64))) % 2 ^ 64) [

@@ -1,8 +1,11 @@
 -- The limits of what is read, woven, written and run (this project's profile).
 use Rattle.std.specs.Prelude.{ℕ, Bool, true, false}
 use Rattle.machine.specs.declared.limits.Limit.{Limit}
-use Rattle.machine.specs.declared.limits.Limit.TheVariants.{FileBytes, RunFileBytes, ImageSpan, CodeWords, CodeBytes, Sections, MemoryBytes, TopAddress, OutputSegments, OutputBytes, CountedBytes, LeanBytes}
-use Rattle.machine.specs.declared.limits.TheConstants.{MAX_FILE_BYTES, MAX_RUN_FILE_BYTES, MAX_IMAGE_SPAN, MAX_CODE_WORDS, MAX_CODE_BYTES, MAX_SECTIONS, MAX_MEMORY_BYTES, MAX_TOP_ADDRESS, MAX_OUTPUT_SEGMENTS, MAX_OUTPUT_BYTES, MAX_COUNTED_BYTES, MAX_NEAR_CODE_BYTES}
+use Rattle.machine.specs.declared.limits.Limit.TheVariants.{FileBytes, RunFileBytes, ImageSpan, CodeWords, CodeBytes, Sections, MemoryBytes, TopAddress}
+use Rattle.machine.specs.declared.limits.Limit.TheVariants.{OutputSegments, OutputBytes, CountedBytes, LeanBytes}
+use Rattle.machine.specs.declared.limits.TheConstants.{MAX_FILE_BYTES, MAX_RUN_FILE_BYTES, MAX_IMAGE_SPAN, MAX_CODE_WORDS, MAX_CODE_BYTES, MAX_SECTIONS}
+use Rattle.machine.specs.declared.limits.TheConstants.{MAX_MEMORY_BYTES, MAX_TOP_ADDRESS, MAX_OUTPUT_SEGMENTS, MAX_OUTPUT_BYTES, MAX_COUNTED_BYTES}
+use Rattle.machine.specs.declared.limits.TheConstants.{MAX_NEAR_CODE_BYTES}
 
 -- the greatest number that is taken
 abbrev pub limit_of : Limit → ℕ

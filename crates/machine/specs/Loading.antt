@@ -41,7 +41,7 @@ abbrev pub first_some : List (ℕ × ℕ) → List (ℕ × ℕ) → List (ℕ ×
 first_some [] ys = ys
 first_some (x ∷ xs) ys = x ∷ xs
 
--- the sections of code, and the segments of code where there is no such section
+-- the sections of code, or without any the segments of code
 abbrev pub code_ranges : List LoadSegment → List Section → List (ℕ × ℕ)
 code_ranges ls ss = first_some (section_ranges ls ss) (segment_ranges ls)
 

@@ -1,6 +1,7 @@
--- Memory: a finite map from an address to a byte and its permissions. Addresses are modulo 2^64, and numbers are little endian
--- (RISC-V unprivileged manual, "Memory" and "Base ISA Memory Model").
-use Rattle.std.specs.Prelude.{ℕ, zero, suc, ◌+◌, ◌-◌, ◌*◌, ◌/◌, ◌%◌, ◌^◌, ◌<◌, ◌≤◌, ◌⊎◌, Bool, true, false, cond, ◌&&◌, List, [], ◌∷◌, map, nat_lt, ◌==◌, Option, Some, None, refl}
+-- Memory: a finite map from an address to a byte and its permissions. Addresses are modulo 2^64, and numbers are little
+-- endian (RISC-V unprivileged manual, "Memory" and "Base ISA Memory Model").
+use Rattle.std.specs.Prelude.{ℕ, zero, suc, ◌+◌, ◌-◌, ◌*◌, ◌/◌, ◌%◌, ◌^◌, ◌<◌, ◌≤◌, ◌⊎◌, Bool, true, false, cond, ◌&&◌, List, [], ◌∷◌, map, nat_lt, ◌==◌}
+use Rattle.std.specs.Prelude.{Option, Some, None, refl}
 use Rattle.std.specs.Option.{option_map}
 use Rattle.std.specs.Coded.{Coded, code_by, coded×, coded_ℕ, coded_bool}
 use Rattle.std.specs.FinMap.{FinMap, entries, from_sorted, code}
@@ -23,7 +24,7 @@ pub record Cell : Type 0 where
   pub byte : ℕ
   pub flags : Flags
 
--- an address that is no key is not mapped
+-- an address that is not a key is not mapped
 abbrev pub Memory : Type 0
 Memory = FinMap nat_cmp Cell
 
@@ -35,7 +36,7 @@ with_byte b c = record { byte = b; flags = c.flags }
 abbrev pub rewritten_entry : (ℕ → ℕ → ℕ) → ℕ × Cell → ℕ × Cell
 rewritten_entry f e = (e.0, with_byte (f e.0 e.1.byte) e.1)
 
--- the same addresses and permissions; each byte is a function of its address and the old byte
+-- each byte becomes a function of its address and the old byte; addresses and permissions stay
 unfoldable pub rewritten : (ℕ → ℕ → ℕ) → Memory → Memory
 rewritten f m = from_sorted (map (rewritten_entry f) (entries m))
 
@@ -101,7 +102,8 @@ poked a v m = rewritten (λ q b. cond (q == a) v b) m
 -- ---- codes, by which a proof tells values apart
 -- permissions as three tests
 abbrev pub flags_code : Coded Flags
-flags_code = code_by (Bool × (Bool × Bool)) (coded× coded_bool (coded× coded_bool coded_bool)) (λ f. (f.read, (f.write, f.execute))) (λ p. record { read = p.0; write = p.1.0; execute = p.1.1 }) (λ _. refl)
+flags_code = code_by (Bool × (Bool × Bool)) (coded× coded_bool (coded× coded_bool coded_bool)) (λ f. (f.read, (f.write, f.execute)))
+    (λ p. record { read = p.0; write = p.1.0; execute = p.1.1 }) (λ _. refl)
 
 -- a cell as its byte and its permissions
 abbrev pub cell_code : Coded Cell

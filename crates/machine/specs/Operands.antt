@@ -1,6 +1,6 @@
--- Which registers an instruction reads and writes, by the fields of its kind's format (RISC-V unprivileged manual, "Base Instruction Formats").
+-- Registers that an instruction reads and writes (RISC-V unprivileged manual, "Base Instruction Formats").
 use Rattle.std.specs.Prelude.{◌≡◌, Bool, true, false, not, ◌&&◌}
-use Rattle.rv_isa.specs.Ins.{named, writes, reads}
+use Rattle.rv_isa.specs.Ins.{named_register, writes, reads}
 use Rattle.machine.specs.Table.{Ins, Auipc, Fence, Kind, Format, R, S, B, U, J, N, row_of}
 
 -- the formats with each field
@@ -29,11 +29,11 @@ is_fence _ = false
 
 -- what is read and written is what the format has, but for x0 and for FENCE
 pub record OperandsGoByFormat : Type 0 where
-  pub written : (i : Ins) → writes i ≡ named (has_rd (row_of i.kind).format && not (is_fence i.kind)) i.rd
+  pub written : (i : Ins) → writes i ≡ named_register (has_rd (row_of i.kind).format && not (is_fence i.kind)) i.rd
   pub read :
       (i : Ins)
       → reads i
-      ≡ (named (has_rs1 (row_of i.kind).format && not (is_fence i.kind)) i.rs1, named (has_rs2 (row_of i.kind).format && not (is_fence i.kind)) i.rs2)
+      ≡ (named_register (has_rs1 (row_of i.kind).format && not (is_fence i.kind)) i.rs1, named_register (has_rs2 (row_of i.kind).format && not (is_fence i.kind)) i.rs2)
 
 -- AUIPC, whose value is a constant
 abbrev pub is_auipc : Kind → Bool

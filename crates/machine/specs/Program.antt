@@ -4,14 +4,14 @@ use Rattle.std.specs.FinMap.{from_entries}
 use Rattle.machine.specs.Step.{Going, State}
 use Rattle.machine.specs.Memory.{Flags, Cell, Memory, cells_from}
 
--- a PT_LOAD segment: its address, its size in memory, its permissions, and its bytes in the file (ELF gABI, program header)
+-- a PT_LOAD segment: its address, size in memory, permissions, and bytes in the file (ELF gABI, program header)
 pub record LoadSegment : Type 0 where
   pub address : ℕ
   pub size : ℕ
   pub flags : Flags
   pub bytes : List ℕ
 
--- what a machine starts from: the entry point, the code ranges by their first address and the one behind their last, and the PT_LOAD segments
+-- what a machine starts from: entry point, code ranges by first address and the one behind the last, PT_LOAD segments
 pub record Program : Type 0 where
   pub entry : ℕ
   pub ranges : List (ℕ × ℕ)

@@ -8,12 +8,12 @@ pub record Progress : Type 0 where
   pub steps : ℕ
 
 -- one more; the greatest number of 64 bits stays
-abbrev pub counted : ℕ → ℕ
-counted n = min (n + 1) (2 ^ 64 - 1)
+abbrev pub one_more : ℕ → ℕ
+one_more n = min (n + 1) (2 ^ 64 - 1)
 
 -- the number of steps after one from a state with the outcome
 abbrev pub steps_after : Outcome → ℕ → ℕ
-steps_after Going n = counted n
+steps_after Going n = one_more n
 steps_after Ended n = n
 steps_after Fired n = n
 steps_after (Trapped c pc) n = n
@@ -28,5 +28,5 @@ progress p zero = p
 progress p (suc n) = progress (advanced p) n
 
 -- a state before its first step
-abbrev pub begun : State → Progress
-begun s = record { state = s; steps = 0 }
+abbrev pub first_state : State → Progress
+first_state s = record { state = s; steps = 0 }

@@ -1,12 +1,16 @@
 -- States of the machine, one step, and runs (RISC-V unprivileged manual, RV64I).
--- One hart, whose memory has permissions for each byte; ECALL ends a run and EBREAK fires a check (this project's profile).
-use Rattle.std.specs.Prelude.{◌≡◌, ℕ, zero, suc, ◌+◌, ◌*◌, ◌/◌, ◌%◌, ◌^◌, Bool, false, cond, ◌&&◌, ◌||◌, List, [], ◌∷◌, nat_le, ◌==◌, Option, Some, None, pos, slice_index}
+-- A hart whose memory has permissions for each byte. ECALL ends a run, EBREAK fires a check (this project's profile).
+use Rattle.std.specs.Prelude.{◌≡◌, ℕ, zero, suc, ◌+◌, ◌*◌, ◌/◌, ◌%◌, ◌^◌, Bool, false, cond, ◌&&◌, ◌||◌, List, [], ◌∷◌, nat_le, ◌==◌, Option, Some, None, pos}
+use Rattle.std.specs.Prelude.{slice_index}
 pub use Rattle.rv_isa.specs.declared.ins.Ins.{Ins}
 pub use Rattle.rv_isa.specs.declared.class.Class.{Class}
 pub use Rattle.rv_isa.specs.Kind.{class_of}
 pub use Rattle.rv_isa.specs.Regs.{set_reg}
 use Rattle.rv_isa.specs.declared.class.Class.TheVariants as class
-pub use Rattle.machine.specs.Table.{Illegal, Lui, Auipc, Jal, Jalr, Beq, Bne, Blt, Bge, Bltu, Bgeu, Lb, Lh, Lw, Ld, Lbu, Lhu, Lwu, Sb, Sh, Sw, Sd, Addi, Slti, Sltiu, Xori, Ori, Andi, Slli, Srli, Srai, Add, Sub, Sll, Slt, Sltu, Xor, Srl, Sra, Or, And, Fence, Ecall, Ebreak, Addiw, Slliw, Srliw, Sraiw, Addw, Subw, Sllw, Srlw, Sraw, Mul, Mulh, Mulhsu, Mulhu, Div, Divu, Rem, Remu, Mulw, Divw, Divuw, Remw, Remuw, Kind, ins, row_of}
+pub use Rattle.machine.specs.Table.{Illegal, Lui, Auipc, Jal, Jalr, Beq, Bne, Blt, Bge, Bltu, Bgeu, Lb, Lh, Lw, Ld, Lbu, Lhu, Lwu, Sb, Sh, Sw, Sd, Addi, Slti}
+pub use Rattle.machine.specs.Table.{Sltiu, Xori, Ori, Andi, Slli, Srli, Srai, Add, Sub, Sll, Slt, Sltu, Xor, Srl, Sra, Or, And, Fence, Ecall, Ebreak, Addiw}
+pub use Rattle.machine.specs.Table.{Slliw, Srliw, Sraiw, Addw, Subw, Sllw, Srlw, Sraw, Mul, Mulh, Mulhsu, Mulhu, Div, Divu, Rem, Remu, Mulw, Divw, Divuw}
+pub use Rattle.machine.specs.Table.{Remw, Remuw, Kind, ins, row_of}
 use Rattle.machine.specs.Table.{Format, R, decode_of}
 use Rattle.machine.specs.declared.outcome.Cause.{Cause}
 pub use Rattle.machine.specs.declared.outcome.Outcome.{Outcome}
@@ -15,8 +19,8 @@ use Rattle.machine.specs.Values.{wrapped, value, holds, width_of, loaded}
 use Rattle.machine.specs.Memory.{Memory, put, number, grants}
 use Rattle.machine.specs.declared.outcome.Cause.TheVariants as cause
 
--- the registers x0 to x31, the pc, the memory, the code ranges by their first address and the one behind their last, and the
--- outcome
+-- the registers x0 to x31, the pc, the memory, the code ranges by their first address and the one behind their last,
+-- and the outcome
 pub record State : Type 0 where
   pub regs : List ℕ
   pub pc : ℕ
@@ -50,7 +54,7 @@ abbrev pub in_range : ℕ → List (ℕ × ℕ) → Bool
 in_range a [] = false
 in_range a (r ∷ rs) = (nat_le r.0 a && nat_le (a + 4) r.1) || in_range a rs
 
--- no code may be executed there, a word that is no instruction, or an instruction
+-- no code may be executed there, the word is not an instruction, or it is one
 pub data Fetched : Type 0 where
   Refused : Fetched
   Unknown : ℕ → Fetched
@@ -94,7 +98,7 @@ computed_value Lui i pc regs = imm i
 computed_value Auipc i pc regs = target i pc
 computed_value k i pc regs = value k (slice_index regs i.rs1) (operand (row_of k).format i regs)
 
--- the same in a state
+-- the second operand of an instruction in a state
 abbrev pub second : Format → Ins → State → ℕ
 second f i s = operand f i s.regs
 

@@ -1,6 +1,9 @@
 -- What each instruction computes, over whole numbers (RISC-V unprivileged manual, "RV64I" and the M extension).
-use Rattle.std.specs.Prelude.{ℕ, suc, ◌+◌, ◌-◌, ◌*◌, ◌/◌, ◌%◌, ◌^◌, Bool, false, cond, not, nat_lt, ◌==◌, bit_and, bit_or, bit_xor, ℤ, pos, negsuc, ◌*ℤ◌, int_lt, int_div, int_rem}
-use Rattle.machine.specs.Table.{Beq, Bne, Blt, Bge, Bltu, Bgeu, Lb, Lh, Lw, Lbu, Lhu, Lwu, Sb, Sh, Sw, Addi, Slti, Sltiu, Xori, Ori, Andi, Slli, Srli, Srai, Add, Sub, Sll, Slt, Sltu, Xor, Srl, Sra, Or, And, Addiw, Slliw, Srliw, Sraiw, Addw, Subw, Sllw, Srlw, Sraw, Mul, Mulh, Mulhsu, Mulhu, Div, Divu, Rem, Remu, Mulw, Divw, Divuw, Remw, Remuw, Kind, signed, is_zero}
+use Rattle.std.specs.Prelude.{ℕ, suc, ◌+◌, ◌-◌, ◌*◌, ◌/◌, ◌%◌, ◌^◌, Bool, false, cond, not, nat_lt, ◌==◌, bit_and, bit_or, bit_xor, ℤ, pos, negsuc, ◌*ℤ◌}
+use Rattle.std.specs.Prelude.{int_lt, int_div, int_rem}
+use Rattle.machine.specs.Table.{Beq, Bne, Blt, Bge, Bltu, Bgeu, Lb, Lh, Lw, Lbu, Lhu, Lwu, Sb, Sh, Sw, Addi, Slti, Sltiu, Xori, Ori, Andi, Slli, Srli, Srai}
+use Rattle.machine.specs.Table.{Add, Sub, Sll, Slt, Sltu, Xor, Srl, Sra, Or, And, Addiw, Slliw, Srliw, Sraiw, Addw, Subw, Sllw, Srlw, Sraw, Mul, Mulh, Mulhsu}
+use Rattle.machine.specs.Table.{Mulhu, Div, Divu, Rem, Remu, Mulw, Divw, Divuw, Remw, Remuw, Kind, signed, is_zero}
 
 -- z modulo 2^64
 abbrev pub wrapped : ℤ → ℕ
@@ -32,7 +35,7 @@ u32 x = x % 2 ^ 32
 abbrev pub from_test : Bool → ℕ
 from_test b = cond b 1 0
 
--- rounded towards zero; by 0 all bits are set, and the overflow wraps (RISC-V unprivileged manual, "Division Operations")
+-- rounded towards zero; by 0 all bits are set, and the overflow wraps (unprivileged manual, "Division Operations")
 abbrev pub quotient : ℤ → ℤ → ℕ
 quotient a b = cond (is_zero b) (2 ^ 64 - 1) (wrapped (int_div a b))
 
@@ -40,8 +43,8 @@ quotient a b = cond (is_zero b) (2 ^ 64 - 1) (wrapped (int_div a b))
 abbrev pub remainder : ℤ → ℤ → ℕ
 remainder a b = cond (is_zero b) (wrapped a) (wrapped (int_rem a b))
 
--- what a computing kind gives for its first operand and its second, a register or the immediate; LUI and AUIPC read the pc or
--- no register, and have their values at `result`
+-- what a computing kind gives for its first operand and its second, a register or the immediate; LUI and AUIPC read the
+-- pc or no register, and have their values at `result`
 unfoldable pub value : Kind → ℕ → ℕ → ℕ
 value Addi a b = (a + b) % 2 ^ 64
 value Add a b = (a + b) % 2 ^ 64

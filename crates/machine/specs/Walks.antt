@@ -1,4 +1,4 @@
--- Walks: several steps, of which each state on the way is said to have a property.
+-- Walks: several steps, with a property of each state on the way.
 use Rattle.std.specs.Prelude.{◌≡◌, ℕ, ◌<◌}
 use Rattle.machine.specs.Step.{Going, State, Fetched, fetched_at, run}
 

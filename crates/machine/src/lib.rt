@@ -1,5 +1,5 @@
-//! The machine of RV64IM: the definitions of instructions, memory, steps and runs, the limits of what is read and run, and the
-//! types that they share.
+//! The machine of RV64IM: the definitions of instructions, memory, steps and runs, the limits of what is read and run,
+//! and the types that they share.
 #![tactic(auto)]
 
 mod laws;

@@ -7,7 +7,7 @@ use Rattle.machine.specs.Memory.{Memory, wrap, byte_of, poked, put, get}
 use Rattle.machine.specs.Program.{LoadSegment, memory_of}
 use Rattle.machine.specs.Cells.{has, cell_among}
 use Rattle.machine.proofs.Lemmas.{put-more, has_parts}
-use Rattle.mem_image.specs.Overlap.{AreSound}
+use Rattle.mem_image.specs.Overlap.{AreImage}
 use Rattle.mem_image.specs.Segments.{has_all, with_bytes_at, IsFirst, IsLike}
 use Rattle.mem_image.proofs.SegmentLaws.{first_is, memory_of-set, memory_of-missing, IsWhole}
 use Rattle.mem_image.proofs.NumberLaws.{low_byte}
@@ -24,7 +24,7 @@ byte_small v i = omega arith
 
 -- one byte more, in the page that has it
 pub set_more :
-    (ss : List LoadSegment) (k : ℕ) (s t : LoadSegment) (a n v : ℕ) (m : Memory) → AreSound ss → IsFirst ss (wrap (a + n)) k → s ≡ get_or ss k s → IsWhole (get_or ss k s)
+    (ss : List LoadSegment) (k : ℕ) (s t : LoadSegment) (a n v : ℕ) (m : Memory) → AreImage ss → IsFirst ss (wrap (a + n)) k → s ≡ get_or ss k s → IsWhole (get_or ss k s)
     → t ≡ with_bytes_at (get_or ss k s) (wrap (a + n)) 1 (bit_and (v / 2 ^ (8 * n)) 255) → a < 2 ^ 64 → n < 8 → ((q : ℕ) → 2 ^ 64 ≤ q → get m q ≡ None)
     → memory_of ss ≡ put m a n v → memory_of (set ss k t) ≡ put m a (n + 1) v
 set_more ss k s t a n v m sound first read whole is ha hn high before =
@@ -37,7 +37,7 @@ set_more ss k s t a n v m sound first read whole is ha hn high before =
 
 -- or where no page has it
 pub set_passed :
-    (ss : List LoadSegment) (a n v : ℕ) (m : Memory) → AreSound ss → cell_among ss (wrap (a + n)) ≡ None → a < 2 ^ 64 → n < 8 → ((q : ℕ) → 2 ^ 64 ≤ q → get m q ≡ None)
+    (ss : List LoadSegment) (a n v : ℕ) (m : Memory) → AreImage ss → cell_among ss (wrap (a + n)) ≡ None → a < 2 ^ 64 → n < 8 → ((q : ℕ) → 2 ^ 64 ≤ q → get m q ≡ None)
     → memory_of ss ≡ put m a n v → memory_of ss ≡ put m a (n + 1) v
 set_passed ss a n v m sound none ha hn high before =
     memory_of-missing ss (wrap (a + n)) (byte_of v n) sound.fit none ∙ ap (poked (wrap (a + n)) (byte_of v n)) before ∙ put-more m a n v ha (omega (arith, hn)) high
@@ -49,5 +49,5 @@ put_back ss ts k q s t b first read later back =
     ap (λ x. set x k b) later ∙ set-set ss k t b ∙ ap (set ss k) (back ∙ sym read) ∙ set_none ss k s here.0
 
 -- a page that was written
-pub sound_set : (ss : List LoadSegment) (k q : ℕ) (s t : LoadSegment) → AreSound ss → IsFirst ss q k → s ≡ get_or ss k s → IsLike (get_or ss k s) t → AreSound (set ss k t)
+pub sound_set : (ss : List LoadSegment) (k q : ℕ) (s t : LoadSegment) → AreImage ss → IsFirst ss q k → s ≡ get_or ss k s → IsLike (get_or ss k s) t → AreImage (set ss k t)
 sound_set ss k q s t sound first read like = sound_like ss k s t sound (first_is ss q k s first read).0 (subst (λ x. IsLike x t) (sym read) like)

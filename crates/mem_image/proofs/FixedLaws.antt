@@ -8,18 +8,18 @@ use Rattle.machine.specs.Apart.{AllFitMemory}
 use Rattle.machine.specs.Cells.{has, cell_among}
 use Rattle.machine.proofs.Lemmas.{grants_at, wrap_offset, get-put_outside, has_parts}
 use Rattle.mem_image.specs.Access.{allowed_number}
-use Rattle.mem_image.specs.Fixed.{is_code_flags, has_code, IsFixed}
-use Rattle.mem_image.specs.Overlap.{AreSound}
+use Rattle.mem_image.specs.Fixed.{is_code_flags, has_code, IsFixedCode}
+use Rattle.mem_image.specs.Overlap.{AreImage}
 use Rattle.mem_image.specs.Segments.{has_all, number_in, IsFirst}
 use Rattle.mem_image.proofs.SegmentLaws.{get-memory_of}
 use Rattle.mem_image.proofs.WholeLaws.{held_granted, held_number, granted_number, among_stands}
 
 -- the word at an address
-pub fixed_number : (m : Memory) (s : LoadSegment) (a : ℕ) → IsFixed m s → has_all s a 4 ≡ true → allowed_number (λ f. f.execute) m a 4 ≡ Some (number_in s.bytes (a - s.address) 4)
+pub fixed_number : (m : Memory) (s : LoadSegment) (a : ℕ) → IsFixedCode m s → has_all s a 4 ≡ true → allowed_number (λ f. f.execute) m a 4 ≡ Some (number_in s.bytes (a - s.address) 4)
 fixed_number m s a h w = sym (granted_number (λ f. f.execute) m a 4 (number_in s.bytes (a - s.address) 4) (held_granted (λ f. f.execute) m s a 4 h.stands w h.executed) (held_number m s a 4 h.stands w))
 
 -- a cell that may not be written is none of those that are
-spared : (m : Memory) (s : LoadSegment) (a n q : ℕ) → IsFixed m s → a < 2 ^ 64 → grants (λ f. f.write) m a n ≡ true → has s q ≡ true → n ≤ offset a q
+spared : (m : Memory) (s : LoadSegment) (a n q : ℕ) → IsFixedCode m s → a < 2 ^ 64 → grants (λ f. f.write) m a n ≡ true → has s q ≡ true → n ≤ offset a q
 spared m s a n q h low g w = ⊎_elim (λ l. absurd (written l)) (λ l. l) (cases_lt (offset a q) n) where
   written : offset a q < n → ⊥
   written l =
@@ -30,7 +30,7 @@ spared m s a n q h low g w = ⊎_elim (λ l. absurd (written l)) (λ l. l) (case
       false≢true (sym h.unwritten ∙ sym (ap (allows (λ f. f.write)) (h.stands.cells q w)) ∙ one)
 
 -- a store leaves them
-pub fixed_put : (m : Memory) (s : LoadSegment) (a n v : ℕ) → IsFixed m s → a < 2 ^ 64 → grants (λ f. f.write) m a n ≡ true → IsFixed (put m a n v) s
+pub fixed_put : (m : Memory) (s : LoadSegment) (a n v : ℕ) → IsFixedCode m s → a < 2 ^ 64 → grants (λ f. f.write) m a n ≡ true → IsFixedCode (put m a n v) s
 fixed_put m s a n v h low g = record {
   stands = record {
     cells = λ q w. get-put_outside m a n v q (spared m s a n q h low g w) ∙ h.stands.cells q w;
@@ -46,7 +46,7 @@ pub none_no_code : (ss : List LoadSegment) (q : ℕ) → AllFitMemory ss → cel
 none_no_code ss q fit e = ap (allows is_code_flags) (get-memory_of ss q fit ∙ e)
 
 pub first_no_code :
-    (ss : List LoadSegment) (q k : ℕ) → AreSound ss → IsFirst ss q k → ((s : LoadSegment) → slice_get ss k ≡ Some s → is_code_flags s.flags ≡ false)
+    (ss : List LoadSegment) (q k : ℕ) → AreImage ss → IsFirst ss q k → ((s : LoadSegment) → slice_get ss k ≡ Some s → is_code_flags s.flags ≡ false)
     → has_code (memory_of ss) q ≡ false
 first_no_code ss q k sound first h =
     let s : LoadSegment = first.found.0 in

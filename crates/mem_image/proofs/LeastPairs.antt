@@ -1,4 +1,4 @@
--- The least pair of numbers of which a relation holds, as a loop within a loop finds it.
+-- The least pair of numbers with a relation, as a loop within a loop finds it.
 use Rattle.std.proofs.Common.{◌≡◌, ◌⊎◌, inl, inr, ⊎_elim, ℕ, ◌+◌, ◌<◌, ◌≤◌, arith}
 use Rattle.std.proofs.lemmas.Bool.{cases_lt}
 

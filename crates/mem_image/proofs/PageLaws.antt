@@ -1,4 +1,4 @@
--- The bytes of a page, of which the first are a segment's.
+-- The bytes of a page that begins with those of a segment.
 use Rattle.std.proofs.Common.{◌≡◌, ℕ, zero, suc, ◌+◌, ◌-◌, ◌<◌, ◌≤◌, List, [], ◌∷◌, length, take, refl, sym, ap, ◌∙◌, arith, add-one, replicate, get_or-set_same, get_or-set_other, length-set, ⊎_elim}
 use Rattle.std.specs.Prelude.{slice_index, slice_set}
 use Rattle.machine.specs.Memory.{byte_of}

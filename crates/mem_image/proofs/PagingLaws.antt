@@ -16,8 +16,8 @@ use Rattle.machine.specs.Memory.{Cell}
 use Rattle.machine.specs.Program.{LoadSegment}
 use Rattle.machine.specs.Cells.{has, cell_at, cell_among}
 use Rattle.machine.specs.Apart.{AllFitMemory, FitsMemory, share, AreApart}
-use Rattle.mem_image.specs.Overlap.{segment_of, segments_of, Ascends}
-use Rattle.mem_image.specs.Pages.{IsPageOf, Below, first_part, IsPaged, IsPlace, Orders, Names, HasOne, Covers}
+use Rattle.mem_image.specs.Overlap.{plain_segment, segments_of, Ascends}
+use Rattle.mem_image.specs.Pages.{IsPageOf, Below, first_part, IsPaged, IsPlace, Orders, Names, HasOne, CoversSegments}
 use Rattle.mem_image.proofs.SegmentLaws.{cell_among-none, cell_among-first}
 use Rattle.mem_image.specs.declared.spec.SegmentSpec.{SegmentSpec}
 use Rattle.mem_image.proofs.OverlapLaws.{seen_there}
@@ -95,7 +95,7 @@ names_same ss order j s t x y =
 names_last : (ss : List LoadSegment) (order : List (ℕ × ℕ)) (n j : ℕ) (s t : LoadSegment) → Names ss order n s → j < n + 1 → Names ss order j t → (j < n) ⊎ ((j ≡ n) × (s ≡ t))
 names_last ss order n j s t x l y = ⊎_elim (λ m. inl m) (λ m. let e : j ≡ n = omega arith in inr (e, names_same ss order n s t x (rw e at y))) (cases_lt j n)
 
-module _ (ss : List LoadSegment) (order : List (ℕ × ℕ)) (pages new : List LoadSegment) (bound n : ℕ) (s : LoadSegment) (c : Covers ss order pages bound n) (x : Names ss order n s) (from : bound ≤ s.address) (p : IsPaged pages s new s.size) where
+module _ (ss : List LoadSegment) (order : List (ℕ × ℕ)) (pages new : List LoadSegment) (bound n : ℕ) (s : LoadSegment) (c : CoversSegments ss order pages bound n) (x : Names ss order n s) (from : bound ≤ s.address) (p : IsPaged pages s new s.size) where
   ends_more : (j : ℕ) (t : LoadSegment) → j < n + 1 → Names ss order j t → t.address + t.size ≤ s.address + s.size
   ends_more j t l y = ⊎_elim (λ m. let e = c.ends j t m y in omega (arith, e, from)) (λ m. rw m.1 (omega arith)) (names_last ss order n j s t x l y)
 
@@ -120,7 +120,7 @@ module _ (ss : List LoadSegment) (order : List (ℕ × ℕ)) (pages new : List L
   last_more : (q : ℕ) → q + 1 ≡ s.address + s.size → HasOne ss order (n + 1) q
   last_more q e = let some = x.some in record { place = n; segment = s; below = omega arith; names = x; inside = has_from s q (omega (arith, e, some)) (omega (arith, e)) }
 
-  pub covers_more : Covers ss order new (s.address + s.size) (n + 1)
+  pub covers_more : CoversSegments ss order new (s.address + s.size) (n + 1)
   covers_more = record { below = p.below; ends = ends_more; apart = apart_more; cells = cells_more; only = only_more; last = last_more }
 
 -- ---- all segments
@@ -131,7 +131,7 @@ named_at ss order m k s all every e some =
     let c = all.named k s (omega (arith, l, every)) e some in
     (c.0, (c.1, slice_get-get_or order c.0 (s.address, k) c.1 ∙ ap Some c.2))
 
-module _ (ss : List LoadSegment) (order : List (ℕ × ℕ)) (pages : List LoadSegment) (bound n m : ℕ) (all : Orders ss order m) (every : length ss ≡ m) (whole : length order ≤ n) (c : Covers ss order pages bound n) where
+module _ (ss : List LoadSegment) (order : List (ℕ × ℕ)) (pages : List LoadSegment) (bound n m : ℕ) (all : Orders ss order m) (every : length ss ≡ m) (whole : length order ≤ n) (c : CoversSegments ss order pages bound n) where
   -- segments that share a byte have bytes, and neither ends before the other
   sharing : (s t : LoadSegment) → share s t ≡ true → ((0 < s.size) × (0 < t.size)) × ((t.address < s.address + s.size) × (s.address < t.address + t.size))
   sharing s t h = ((grind (arith, nat_tests), grind (arith, nat_tests)), (grind (arith, nat_tests), grind (arith, nat_tests)))
@@ -164,7 +164,7 @@ module _ (ss : List LoadSegment) (order : List (ℕ × ℕ)) (pages : List LoadS
 
 -- ---- two that share a byte
 -- the segment of a place begins below the end of those before it, so that one of these has its first byte too
-pub covers_shared : (ss : List LoadSegment) (order : List (ℕ × ℕ)) (pages : List LoadSegment) (bound n m : ℕ) (t : LoadSegment) → Orders ss order m → IsNonDecreasingBy (λ p. p.0) order → Covers ss order pages bound n → Names ss order n t → t.address < bound → AreApart ss → ⊥
+pub covers_shared : (ss : List LoadSegment) (order : List (ℕ × ℕ)) (pages : List LoadSegment) (bound n m : ℕ) (t : LoadSegment) → Orders ss order m → IsNonDecreasingBy (λ p. p.0) order → CoversSegments ss order pages bound n → Names ss order n t → t.address < bound → AreApart ss → ⊥
 covers_shared ss order pages bound n m t all ascends c y low apart =
     let o = c.last (bound - 1) (omega (arith, low)) in
     let x = o.names in
@@ -190,7 +190,7 @@ places_later ss order n o = λ k d l. let h = o.places k d l in let below = h.be
 number_last : (ss : List LoadSegment) (n k : ℕ) (r s : LoadSegment) → slice_get ss n ≡ Some r → k < n + 1 → slice_get ss k ≡ Some s → (k < n) ⊎ ((k ≡ n) × (s ≡ r))
 number_last ss n k r s at l e = ⊎_elim (λ m. inl m) (λ m. let is : k ≡ n = omega arith in inr (is, same_Some s r (sym e ∙ ap (slice_get ss) is ∙ at))) (cases_lt k n)
 
--- none so far
+-- an empty order
 pub orders_none : (ss : List LoadSegment) → Orders ss [] 0
 unfolding IsDistinct
 orders_none ss = record { places = λ k d l. absurd (omega arith); named = λ k s l e some. absurd (omega arith); once = tt }
@@ -221,10 +221,10 @@ orders_moved ss xs ys n moved o = record {
 
 -- ---- what the code reads
 -- the segment that is read by its number in the order
-pub names_read : (specs : List SegmentSpec) (order : List (ℕ × ℕ)) (j : ℕ) (p : ℕ × ℕ) (a : SegmentSpec) → Orders (segments_of specs) order (length specs) → j < length order → p ≡ get_or order j p → a ≡ get_or specs p.1 a → Names (segments_of specs) order j (segment_of a)
+pub names_read : (specs : List SegmentSpec) (order : List (ℕ × ℕ)) (j : ℕ) (p : ℕ × ℕ) (a : SegmentSpec) → Orders (segments_of specs) order (length specs) → j < length order → p ≡ get_or order j p → a ≡ get_or specs p.1 a → Names (segments_of specs) order j (plain_segment a)
 names_read specs order j p a o l e r =
     let place : IsPlace (segments_of specs) (length specs) p = subst (IsPlace (segments_of specs) (length specs)) (sym e) (o.places j p l) in
-    let there = seen_there segment_of specs p.1 a place.below r in
-    let is : place.segment ≡ segment_of a = same_Some place.segment (segment_of a) (sym place.stands ∙ there) in
+    let there = seen_there plain_segment specs p.1 a place.below r in
+    let is : place.segment ≡ plain_segment a = same_Some place.segment (plain_segment a) (sym place.stands ∙ there) in
     let at : p.0 ≡ a.address = place.address ∙ ap (λ (s : LoadSegment). s.address) is in
     record { number = p.1; stands = slice_get-get_or order j p l ∙ ap Some (sym e) ∙ ap (λ q. Some (q, p.1)) at; segment = there; some = subst (λ (s : LoadSegment). 0 < s.size) is place.some }

@@ -13,9 +13,9 @@ use Rattle.machine.specs.Apart.{FitsMemory, AllFitMemory, AreApart}
 use Rattle.machine.specs.Cells.{cell_at, has}
 use Rattle.mem_image.specs.Segments.{has_all, number_in, with_byte_at, with_bytes_at, IsWholeAt, IsLike}
 use Rattle.mem_image.specs.Access.{allowed_number}
-use Rattle.mem_image.specs.Fixed.{Stands}
+use Rattle.mem_image.specs.Fixed.{HasCells}
 use Rattle.mem_image.proofs.NumberLaws.{byte_power}
-use Rattle.mem_image.specs.Overlap.{Ascends, AreSound}
+use Rattle.mem_image.specs.Overlap.{Ascends, AreImage}
 use Rattle.mem_image.proofs.SegmentLaws.{stands_at, IsWhole, get-memory_of, cell_among-first, memory_of-set, all_fit-set, none_past}
 use Rattle.mem_image.proofs.OverlapLaws.{ascends-apart}
 
@@ -74,7 +74,7 @@ spans s a n h =
     let room = leb-true _ _ p.1 in
     (low, omega (arith, low, near, room))
 
--- and each fewer
+-- a segment with some bytes from an address on has each smaller number of them
 pub has_fewer : (s : LoadSegment) (a m n : ℕ) → has_all s a m ≡ true → n ≤ m → has_all s a n ≡ true
 has_fewer s a m n h l = grind (arith, nat_tests)
 
@@ -114,7 +114,7 @@ ascends-set lo (x ∷ xs) zero s t h e a z =
     (rw a both.0, rw (a, z) both.1)
 ascends-set lo (x ∷ xs) (suc k) s t h e a z = (h.0, ascends-set (x.address + x.size) xs k s t h.1 e a z)
 
-pub sound_like : (ss : List LoadSegment) (k : ℕ) (s t : LoadSegment) → AreSound ss → slice_get ss k ≡ Some s → IsLike s t → AreSound (set ss k t)
+pub sound_like : (ss : List LoadSegment) (k : ℕ) (s t : LoadSegment) → AreImage ss → slice_get ss k ≡ Some s → IsLike s t → AreImage (set ss k t)
 sound_like ss k s t h e l = record { fit = all_fit-set ss k s t h.fit e l.address l.size l.bytes; ascends = ascends-set 0 ss k s t h.ascends e l.address l.size }
 
 -- a segment whose bytes were put
@@ -131,10 +131,10 @@ fits_at (x ∷ xs) (suc k) s f e = fits_at xs k s f.1 e
 pub ends : (ss : List LoadSegment) (k : ℕ) (s : LoadSegment) → AllFitMemory ss → slice_get ss k ≡ Some s → s.address + s.size ≤ 2 ^ 64
 ends ss k s f e = (fits_at ss k s f e).1
 
-get_whole : (ss : List LoadSegment) (k : ℕ) (s : LoadSegment) (q : ℕ) → AreSound ss → slice_get ss k ≡ Some s → has s q ≡ true → get (memory_of ss) q ≡ Some (cell_at s q)
+get_whole : (ss : List LoadSegment) (k : ℕ) (s : LoadSegment) (q : ℕ) → AreImage ss → slice_get ss k ≡ Some s → has s q ≡ true → get (memory_of ss) q ≡ Some (cell_at s q)
 get_whole ss k s q h e w = get-memory_of ss q h.fit ∙ cell_among-first ss q k s e w (before_apart ss k s q (ascends-apart 0 ss h.ascends) e w)
 
-stands_number : (m : Memory) (s : LoadSegment) (a n : ℕ) → Stands m s → s.address ≤ a → a + n ≤ s.address + s.size → number m a n ≡ number_in s.bytes (a - s.address) n
+stands_number : (m : Memory) (s : LoadSegment) (a n : ℕ) → HasCells m s → s.address ≤ a → a + n ≤ s.address + s.size → number m a n ≡ number_in s.bytes (a - s.address) n
 unfolding number number_in
 stands_number m s a zero h low room = refl
 stands_number m s a (suc n) h low room =
@@ -144,14 +144,14 @@ stands_number m s a (suc n) h low room =
     let next : a + 1 - s.address ≡ a - s.address + 1 = omega arith in
     rw (same, byte_of_cell m a, h.cells a w, stands_number m s (a + 1) n h (omega arith) (omega arith), next) refl
 
-refused_whole : (need : Flags → Bool) (ss : List LoadSegment) (k : ℕ) (s : LoadSegment) (a n : ℕ) → AreSound ss → slice_get ss k ≡ Some s → s.address ≤ a → a + suc n ≤ s.address + s.size → need s.flags ≡ false → grants need (memory_of ss) a (suc n) ≡ false
+refused_whole : (need : Flags → Bool) (ss : List LoadSegment) (k : ℕ) (s : LoadSegment) (a n : ℕ) → AreImage ss → slice_get ss k ≡ Some s → s.address ≤ a → a + suc n ≤ s.address + s.size → need s.flags ≡ false → grants need (memory_of ss) a (suc n) ≡ false
 unfolding grants
 refused_whole need ss k s a n h e low room t =
     let end = ends ss k s h.fit e in
     let same : wrap a ≡ a = omega arith in
     rw (same, ap (allows need) (get_whole ss k s a h e (has_span s a (suc n) a low room (omega arith) (omega arith))), t) refl
 
--- ---- the same, by what the code knows
+-- ---- the bytes of an access, by what the code knows
 -- the segment that the code reads at the place that was found
 pub here_whole : (ss l : List LoadSegment) (a n k : ℕ) (s : LoadSegment) → l ≡ ss → IsWholeAt l a n k → k < length l → s ≡ get_or ss k s → (slice_get ss k ≡ Some s) × (has_all s a n ≡ true)
 here_whole ss l a n k s e h below read =
@@ -165,27 +165,27 @@ pub here_at : (ss : List LoadSegment) (a n k : ℕ) (d : LoadSegment) → IsWhol
 here_at ss a n k d whole below = here_whole ss ss a n k (get_or ss k d) refl whole below (get_or_default ss k d (get_or ss k d) below)
 
 -- a segment of those that make a memory stands in it
-pub among_stands : (ss : List LoadSegment) (k : ℕ) (s : LoadSegment) → AreSound ss → slice_get ss k ≡ Some s → Stands (memory_of ss) s
+pub among_stands : (ss : List LoadSegment) (k : ℕ) (s : LoadSegment) → AreImage ss → slice_get ss k ≡ Some s → HasCells (memory_of ss) s
 among_stands ss k s h e = record { cells = λ q w. get_whole ss k s q h e w; ends = ends ss k s h.fit e }
 
 -- an access within a segment that stands in a memory
-pub held_granted : (need : Flags → Bool) (m : Memory) (s : LoadSegment) (a n : ℕ) → Stands m s → has_all s a n ≡ true → need s.flags ≡ true → grants need m a n ≡ true
+pub held_granted : (need : Flags → Bool) (m : Memory) (s : LoadSegment) (a n : ℕ) → HasCells m s → has_all s a n ≡ true → need s.flags ≡ true → grants need m a n ≡ true
 held_granted need m s a n h w t =
     let room = spans s a n w in
     let end = h.ends in
     grants_from need m a n (λ i l. let same : wrap (a + i) ≡ a + i = omega (arith, room, end, l) in rw same (ap (allows need) (h.cells (a + i) (has_span s a n (a + i) room.0 room.1 (omega arith) (omega arith))) ∙ t))
 
-pub held_number : (m : Memory) (s : LoadSegment) (a n : ℕ) → Stands m s → has_all s a n ≡ true → number_in s.bytes (a - s.address) n ≡ number m a n
+pub held_number : (m : Memory) (s : LoadSegment) (a n : ℕ) → HasCells m s → has_all s a n ≡ true → number_in s.bytes (a - s.address) n ≡ number m a n
 held_number m s a n h w = let room = spans s a n w in sym (stands_number m s a n h room.0 room.1)
 
-pub whole_granted : (need : Flags → Bool) (ss : List LoadSegment) (k : ℕ) (s : LoadSegment) (a n : ℕ) → AreSound ss → slice_get ss k ≡ Some s → has_all s a n ≡ true → need s.flags ≡ true → grants need (memory_of ss) a n ≡ true
+pub whole_granted : (need : Flags → Bool) (ss : List LoadSegment) (k : ℕ) (s : LoadSegment) (a n : ℕ) → AreImage ss → slice_get ss k ≡ Some s → has_all s a n ≡ true → need s.flags ≡ true → grants need (memory_of ss) a n ≡ true
 whole_granted need ss k s a n h e w t = held_granted need (memory_of ss) s a n (among_stands ss k s h e) w t
 
-pub whole_refused : (need : Flags → Bool) (ss : List LoadSegment) (k : ℕ) (s : LoadSegment) (a n : ℕ) → AreSound ss → slice_get ss k ≡ Some s → has_all s a n ≡ true → 0 < n → need s.flags ≡ false → grants need (memory_of ss) a n ≡ false
+pub whole_refused : (need : Flags → Bool) (ss : List LoadSegment) (k : ℕ) (s : LoadSegment) (a n : ℕ) → AreImage ss → slice_get ss k ≡ Some s → has_all s a n ≡ true → 0 < n → need s.flags ≡ false → grants need (memory_of ss) a n ≡ false
 whole_refused need ss k s a zero h e w l t = absurd (omega arith)
 whole_refused need ss k s a (suc n) h e w l t = let room = spans s a (suc n) w in refused_whole need ss k s a n h e room.0 room.1 t
 
-pub whole_number : (ss : List LoadSegment) (k : ℕ) (s : LoadSegment) (a n : ℕ) → AreSound ss → slice_get ss k ≡ Some s → has_all s a n ≡ true → number_in s.bytes (a - s.address) n ≡ number (memory_of ss) a n
+pub whole_number : (ss : List LoadSegment) (k : ℕ) (s : LoadSegment) (a n : ℕ) → AreImage ss → slice_get ss k ≡ Some s → has_all s a n ≡ true → number_in s.bytes (a - s.address) n ≡ number (memory_of ss) a n
 whole_number ss k s a n h e w = held_number (memory_of ss) s a n (among_stands ss k s h e) w
 
 -- ---- several bytes of the segment are written
@@ -197,11 +197,11 @@ there_set ss k s t e =
     let l = slice_get_within ss k s e in
     stands_at (set ss k t) k t (omega (arith, l, length-set ss k t)) (sym (get_or-set_same ss k t t l))
 
-put_whole : (ss : List LoadSegment) (k : ℕ) (s : LoadSegment) (a n v : ℕ) → AreSound ss → slice_get ss k ≡ Some s → IsWhole s → s.address ≤ a → a + n ≤ s.address + s.size → memory_of (set ss k (with_bytes_at s a n v)) ≡ put (memory_of ss) a n v
+put_whole : (ss : List LoadSegment) (k : ℕ) (s : LoadSegment) (a n v : ℕ) → AreImage ss → slice_get ss k ≡ Some s → IsWhole s → s.address ≤ a → a + n ≤ s.address + s.size → memory_of (set ss k (with_bytes_at s a n v)) ≡ put (memory_of ss) a n v
 unfolding with_bytes_at
 put_whole ss k s a zero v h e whole low room = ap memory_of (set_none ss k s e) ∙ sym (put_none (memory_of ss) a v)
 put_whole ss k s a (suc n) v h e whole low room =
-    let sound : AreSound (set ss k (with_bytes_at s a n v)) = sound_like ss k s (with_bytes_at s a n v) h e (like_put s (with_bytes_at s a n v) a n v refl) in
+    let sound : AreImage (set ss k (with_bytes_at s a n v)) = sound_like ss k s (with_bytes_at s a n v) h e (like_put s (with_bytes_at s a n v) a n v refl) in
     let there : slice_get (set ss k (with_bytes_at s a n v)) k ≡ Some (with_bytes_at s a n v) = there_set ss k s (with_bytes_at s a n v) e in
     let full : IsWhole (with_bytes_at s a n v) = length-with_bytes s a n v ∙ whole ∙ sym (size-with_bytes s a n v) in
     let inside : has (with_bytes_at s a n v) (a + n) ≡ true = has-with_bytes s a n v (a + n) ∙ has_span s a (suc n) (a + n) low room (omega arith) (omega arith) in
@@ -214,7 +214,7 @@ put_whole ss k s a (suc n) v h e whole low room =
     ∙ put-more (memory_of ss) a n v (omega arith) (omega arith) (λ q l. none_past ss q h.fit l)
     ∙ rw add-one refl
 
-pub whole_put : (ss : List LoadSegment) (k : ℕ) (s : LoadSegment) (a n v : ℕ) → AreSound ss → slice_get ss k ≡ Some s → IsWhole s → has_all s a n ≡ true → memory_of (set ss k (with_bytes_at s a n v)) ≡ put (memory_of ss) a n v
+pub whole_put : (ss : List LoadSegment) (k : ℕ) (s : LoadSegment) (a n v : ℕ) → AreImage ss → slice_get ss k ≡ Some s → IsWhole s → has_all s a n ≡ true → memory_of (set ss k (with_bytes_at s a n v)) ≡ put (memory_of ss) a n v
 whole_put ss k s a n v h e whole w = let room = spans s a n w in put_whole ss k s a n v h e whole room.0 room.1
 
 -- ---- what is answered

@@ -12,12 +12,12 @@ abbrev pub has_code : Memory → ℕ → Bool
 has_code m q = allows is_code_flags (get m q)
 
 -- the memory has the cells of the segment, which ends at 2^64 or before
-pub record Stands (m : Memory) (s : LoadSegment) : Type 0 where
+pub record HasCells (m : Memory) (s : LoadSegment) : Type 0 where
   pub cells : (q : ℕ) → has s q ≡ true → get m q ≡ Some (cell_at s q)
   pub ends : s.address + s.size ≤ 2 ^ 64
 
--- and its bytes may be executed, but not written
-pub record IsFixed (m : Memory) (s : LoadSegment) : Type 0 where
-  pub stands : Stands m s
+-- the memory has the segment, whose bytes may be executed, but not written
+pub record IsFixedCode (m : Memory) (s : LoadSegment) : Type 0 where
+  pub stands : HasCells m s
   pub executed : s.flags.execute ≡ true
   pub unwritten : s.flags.write ≡ false

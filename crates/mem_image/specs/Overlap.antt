@@ -9,18 +9,18 @@ use Rattle.mem_image.specs.declared.spec.ImageError.TheVariants.{Overlap, Memory
 use Rattle.machine.specs.Apart.{share, AllFitMemory, Overlaps, AreApart}
 
 -- a segment as plain data
-abbrev pub segment_of : SegmentSpec → LoadSegment
-segment_of s = record { address = s.address; size = s.memory; flags = flags_of s.flags; bytes = s.bytes }
+abbrev pub plain_segment : SegmentSpec → LoadSegment
+plain_segment s = record { address = s.address; size = s.memory; flags = flags_of s.flags; bytes = s.bytes }
 
 abbrev pub segments_of : List SegmentSpec → List LoadSegment
-segments_of specs = map segment_of specs
+segments_of specs = map plain_segment specs
 
 -- ---- pairs
 -- a segment of the one list shares a byte with one of the other
 abbrev pub any_share : List LoadSegment → List LoadSegment → Bool
 any_share ss ts = list_any (λ s. list_any (share s) ts) ss
 
--- and of two files
+-- a segment of the one file shares a byte with one of the other
 abbrev pub files_share : Program → Program → Bool
 files_share f g = any_share f.segments g.segments
 
@@ -45,11 +45,11 @@ Ascends lo [] = Unit {0}
 Ascends lo (s ∷ ss) = (lo ≤ s.address) × Ascends (s.address + s.size) ss
 
 -- segments that an image keeps, by their addresses
-pub record AreSound (ss : List LoadSegment) : Type 0 where
+pub record AreImage (ss : List LoadSegment) : Type 0 where
   pub fit : AllFitMemory ss
   pub ascends : Ascends 0 ss
 
--- why there is no image: the least pair that shares a byte, or, where none does, a lack of memory
-abbrev pub Explains : List LoadSegment → ImageError → Type 0
-Explains ss (Overlap i j) = IsLeastPair (Overlaps ss) i j
-Explains ss Memory = AreApart ss
+-- the reason against an image: the least pair that shares a byte, or else a lack of memory
+abbrev pub ExplainsImage : List LoadSegment → ImageError → Type 0
+ExplainsImage ss (Overlap i j) = IsLeastPair (Overlaps ss) i j
+ExplainsImage ss Memory = AreApart ss

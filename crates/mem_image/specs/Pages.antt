@@ -13,7 +13,7 @@ pub record HoldsFrom (bs : List ℕ) (d : ℕ) (page : List ℕ) : Type 0 where
   pub count : length page ≡ PAGE
   pub bytes : (i : ℕ) → i < PAGE → slice_index page i ≡ slice_index bs (d + i)
 
--- from so many of the first addresses of a page on it has eight bytes, and where there are any, they have the permission
+-- from each of the first `room` addresses of a page on it has eight bytes; if there are any, they have the permission
 pub record HasRoom (allowed : Bool) (size room : ℕ) : Type 0 where
   pub granted : 0 < room → allowed ≡ true
   pub within : 0 < room → room + 7 ≤ size
@@ -33,7 +33,7 @@ pub record IsPageOf (s : LoadSegment) (d : ℕ) (h : LoadSegment) : Type 0 where
   pub whole : length h.bytes ≡ h.size
   pub bytes : (i : ℕ) → i < h.size → slice_index h.bytes i ≡ slice_index s.bytes (d + i)
 
--- pages by their addresses, of which none goes over the bound
+-- pages by their addresses, none of them over the bound
 pub record Below (pages : List LoadSegment) (bound : ℕ) : Type 0 where
   pub fit : AllFitMemory pages
   pub ascends : Ascends 0 pages
@@ -78,7 +78,7 @@ pub record HasOne (ss : List LoadSegment) (order : List (ℕ × ℕ)) (n q : ℕ
   pub inside : has segment q ≡ true
 
 -- the pages hold what the first n segments of the order hold, which lie one behind the other and end at the bound
-pub record Covers (ss : List LoadSegment) (order : List (ℕ × ℕ)) (pages : List LoadSegment) (bound n : ℕ) : Type 0 where
+pub record CoversSegments (ss : List LoadSegment) (order : List (ℕ × ℕ)) (pages : List LoadSegment) (bound n : ℕ) : Type 0 where
   pub below : Below pages bound
   pub ends : (j : ℕ) (s : LoadSegment) → j < n → Names ss order j s → s.address + s.size ≤ bound
   pub apart : (i j : ℕ) (s t : LoadSegment) → i < j → j < n → Names ss order i s → Names ss order j t → s.address + s.size ≤ t.address

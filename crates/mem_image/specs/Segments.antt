@@ -10,7 +10,7 @@ pub record IsFirst (ss : List LoadSegment) (q k : ℕ) : Type 0 where
   pub before : (j : ℕ) (s : LoadSegment) → j < k → slice_get ss j ≡ Some s → has s q ≡ false
 
 -- the memory has at the address what the segment has there
-pub record Holds (m : Memory) (s : LoadSegment) (q : ℕ) : Type 0 where
+pub record HoldsSegment (m : Memory) (s : LoadSegment) (q : ℕ) : Type 0 where
   pub cell : get m q ≡ Some (cell_at s q)
   pub inside : has s q ≡ true
 

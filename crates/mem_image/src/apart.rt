@@ -3,14 +3,14 @@ ghost use Rattle.std.specs.Prelude.{◌≡◌, ℕ, ◌≤◌, ◌^◌, IfOk, If
 ghost use Rattle.std.specs.FinMap.{get};
 ghost use Rattle.machine.specs.Memory.{Memory, put};
 ghost use Rattle.machine.specs.Program.{memory_of};
-ghost use Rattle.mem_image.specs.Overlap.{AreSound};
+ghost use Rattle.mem_image.specs.Overlap.{AreImage};
 
 use crate::held::Held;
 use crate::places::place;
 use std::alloc::AllocError;
 
-/// Sets the bytes of a value from number `from` on at those of `width` addresses that are mapped, where the bytes before were set.
-/// Each page is kept until the later bytes are set, so that all stays where there is no memory.
+/// Sets the bytes of a value from number `from` on at those of `width` addresses that are mapped; those before are set.
+/// Each page is kept until the later bytes are set, so that without memory all stays.
 pub fn put_from(
     pages: &mut [Held],
     address: u64,
@@ -18,11 +18,12 @@ pub fn put_from(
     width: u64,
     value: u64,
 ) -> Result<(), AllocError>
-    requires sound { AreSound pages.old }
+    requires sound { AreImage pages.old }
     requires part { from ≤ width }
     requires small { width ≤ 8 }
-    ensures sound { AreSound pages.new }
-    ensures put { IfOk result (λ _. (m : Memory) → ((q : ℕ) → 2 ^ 64 ≤ q → get m q ≡ None) → memory_of pages.old ≡ put m address from value → memory_of pages.new ≡ put m address width value) }
+    ensures sound { AreImage pages.new }
+    ensures put { IfOk result (λ _. (m : Memory) → ((q : ℕ) → 2 ^ 64 ≤ q → get m q ≡ None)
+        → memory_of pages.old ≡ put m address from value → memory_of pages.new ≡ put m address width value) }
     ensures kept { IfErr result (λ _. pages.new ≡ pages.old) }
 {
     if from == width {

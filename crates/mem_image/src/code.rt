@@ -1,16 +1,16 @@
 //! Bytes that may be executed and not written.
 ghost use Rattle.std.specs.Prelude.{◌≡◌, ◌-◌, ◌<◌, true, false, length, slice_get, IfOk, IfNone, IfSome, Some};
 ghost use Rattle.machine.specs.Program.{LoadSegment, memory_of};
-ghost use Rattle.mem_image.specs.Fixed.{is_code_flags, IsFixed};
-ghost use Rattle.mem_image.specs.Overlap.{AreSound};
+ghost use Rattle.mem_image.specs.Fixed.{is_code_flags, IsFixedCode};
+ghost use Rattle.mem_image.specs.Overlap.{AreImage};
 ghost use Rattle.mem_image.specs.Segments.{has_all, number_in};
 
 use crate::held::{Access, Held};
 use std::alloc::AllocError;
 use std::marker::Model;
 
-/// Bytes of a page that may be executed and not written, as a segment of their own. They stay what they were, whatever becomes of
-/// the image that gave them.
+/// Bytes of a page that may be executed and not written, as a segment of their own. They stay as they were, whatever
+/// becomes of the image that gave them.
 #[derive(Drop)]
 pub struct Code {
     held: Held,
@@ -27,9 +27,9 @@ impl Model for Code {
 /// The bytes of the page of this number, where they may be executed and not written.
 #[tactic(auto, using(crate::proofs::SegmentLaws::stands_at, crate::proofs::WholeLaws::among_stands))]
 pub fn code_of(pages: &[Held], at: usize) -> Result<Option<Code>, AllocError>
-    requires sound { AreSound pages.now }
+    requires sound { AreImage pages.now }
     requires below { at < length pages.now }
-    ensures fixed { IfOk result (λ found. IfSome found (IsFixed (memory_of pages.now))) }
+    ensures fixed { IfOk result (λ found. IfSome found (IsFixedCode (memory_of pages.now))) }
     ensures some { IfOk result (λ found. IfSome found (λ code. slice_get pages.now at ≡ Some code)) }
     ensures none { IfOk result (λ found. IfNone found ((s : LoadSegment) → slice_get pages.now at ≡ Some s → is_code_flags s.flags ≡ false)) }
 {

@@ -1,7 +1,7 @@
 //! Pages in memory.
 ghost use Rattle.std.specs.Prelude.{◌≡◌, ◌+◌, ◌-◌, ◌<◌, ◌≤◌, ◌^◌, false, true, [], length, IfOk, IfErr};
 ghost use Rattle.mem_image.specs.Access.{needs};
-ghost use Rattle.mem_image.specs.Overlap.{segment_of};
+ghost use Rattle.mem_image.specs.Overlap.{plain_segment};
 ghost use Rattle.mem_image.specs.Pages.{HasRoom, HoldsFrom, IsPageOf};
 ghost use Rattle.machine.specs.Cells.{has, cell_at};
 ghost use Rattle.mem_image.specs.Segments.{has_all, number_in, with_bytes_at, IsLike};
@@ -43,7 +43,12 @@ impl Model for Held {
 
     ghost Value = { LoadSegment };
 
-    ghost view = { λ h. record { address = h.start; size = h.size; flags = record { read = h.readable; write = h.writable; execute = h.executable }; bytes = take h.size h.page.value.bytes } };
+    ghost view = { λ h. record {
+      address = h.start;
+      size = h.size;
+      flags = record { read = h.readable; write = h.writable; execute = h.executable };
+      bytes = take h.size h.page.value.bytes;
+    } };
 
     ghost invariant = { λ h. IsRoomy h.start h.size h.readable h.reads h.writable h.writes };
 }
@@ -89,7 +94,7 @@ fn room(allowed: bool, size: u64) -> u64
 }
 
 impl Held {
-    /// The bytes of a segment from number `from` on, as many as a page has. Where they are zeros, or none in the file, the
+    /// The bytes of a segment from number `from` on, at most a page. If they are zeros, or none are in the file, the
     /// page of zeros is shared.
     pub fn of(
         alloc: Global,
@@ -100,7 +105,7 @@ impl Held {
         requires more { from < spec.now.memory }
         requires end { spec.now.address + spec.now.memory ≤ 2 ^ 64 }
         requires zeros { HoldsFrom [] 0 zeros.now.value.bytes }
-        ensures { IfOk result (IsPageOf (segment_of spec.now) from) }
+        ensures { IfOk result (IsPageOf (plain_segment spec.now) from) }
     {
         let page = page_from(alloc, zeros, spec.bytes.as_slice(), from)?;
         let size = (spec.memory - from).min(PAGE);
@@ -149,7 +154,7 @@ impl Held {
         self.has(address) && width <= self.size() - (address - self.start)
     }
 
-    /// Whether it has eight bytes from an address on, and they have the permission. It says no of code that may not be read.
+    /// Whether it has eight bytes from an address on with the permission. It is false for code that may not be read.
     #[inline(always)]
     pub fn has_room(&self, access: Access, address: u64) -> bool
         ensures all { result ≡ true → has_all self.now address 8 ≡ true }
@@ -210,7 +215,7 @@ impl Held {
         Ok(())
     }
 
-    /// The same, where the page has no other owner, and whether it has none. Else nothing changes.
+    /// Sets the low bytes and returns true if the page has no other owner. Else nothing changes.
     #[inline(always)]
     pub fn put_own(&mut self, address: u64, width: u64, value: u64) -> bool
         requires has { has_all self.old address width ≡ true }
@@ -228,7 +233,7 @@ impl Held {
         false
     }
 
-    /// The same, where the page may have other owners.
+    /// Sets the low bytes. A page with other owners is copied first.
     #[inline(never)]
     #[tactic(auto, using(crate::proofs::WholeLaws::spans, crate::proofs::PageLaws::put_with, crate::proofs::PageLaws::put_in, crate::proofs::WholeLaws::like_put))]
     fn put_shared(&mut self, address: u64, width: u64, value: u64) -> Result<(), AllocError>
@@ -257,7 +262,7 @@ impl Held {
             && self.page.is_same(&other.page)
     }
 
-    /// The same bytes, shared.
+    /// A copy that shares the bytes.
     pub fn copy(&self) -> Result<Held, AllocError>
         ensures { IfOk result (λ held. held ≡ self.now) }
     {

@@ -5,11 +5,11 @@ ghost use Rattle.std.specs.FinMap.{get};
 ghost use Rattle.machine.specs.Memory.{grants, poked, put};
 ghost use Rattle.machine.specs.Program.{memory_of};
 ghost use Rattle.machine.specs.Cells.{has};
-ghost use Rattle.mem_image.specs.Overlap.{segments_of, Explains};
+ghost use Rattle.mem_image.specs.Overlap.{segments_of, ExplainsImage};
 ghost use Rattle.machine.specs.Apart.{AllFitMemory, AreApart};
 ghost use Rattle.mem_image.specs.Access.{needs, allowed_byte, allowed_number, IsWidth};
-ghost use Rattle.mem_image.specs.Fixed.{has_code, IsFixed};
-ghost use Rattle.mem_image.specs.Segments.{Holds};
+ghost use Rattle.mem_image.specs.Fixed.{has_code, IsFixedCode};
+ghost use Rattle.mem_image.specs.Segments.{HoldsSegment};
 
 use crate::code::{Code, code_of};
 use crate::held::{Access, Held};
@@ -72,13 +72,13 @@ impl Image {
         }))
     }
 
-    /// The bytes of each segment, then zeros up to its size in memory, with its permissions. Each segment has at most `memory`
-    /// bytes and ends at 2^64 or before. `Overlap` comes exactly where two segments share a byte, with the least such pair.
+    /// The bytes of each segment, then zeros up to its size in memory, with its permissions. Each has at most `memory`
+    /// bytes and ends by 2^64. `Overlap` comes exactly if two share a byte, with the least such pair.
     pub fn make(alloc: Global, specs: &[SegmentSpec]) -> Result<Image, ImageError>
         requires { AllFitMemory (segments_of specs.now) }
         ensures made { IfOk result (λ image. image ≡ memory_of (segments_of specs.now)) }
         ensures apart { IfOk result (λ _. AreApart (segments_of specs.now)) }
-        ensures error { IfErr result (Explains (segments_of specs.now)) }
+        ensures error { IfErr result (ExplainsImage (segments_of specs.now)) }
     {
         match Image::paged(alloc, specs) {
             Ok(Some(image)) => Ok(image),
@@ -86,7 +86,7 @@ impl Image {
         }
     }
 
-    /// The image of segments of which no two share a byte, as `make` gives it. The only error is a lack of memory.
+    /// The image of segments that share no byte, as `make` gives it. The only error is a lack of memory.
     pub fn of(alloc: Global, specs: &[SegmentSpec]) -> Result<Image, AllocError>
         requires fit { AllFitMemory (segments_of specs.now) }
         requires apart { AreApart (segments_of specs.now) }
@@ -95,8 +95,8 @@ impl Image {
         Ok(Image::paged(alloc, specs)?.unwrap())
     }
 
-    /// The number of `width` bytes from the address on, or None where one of them is not mapped with PF_R. The width is 1, 2, 4
-    /// or 8.
+    /// The number of `width` bytes from the address on, or None if one of them is not mapped with PF_R. The width is 1,
+    /// 2, 4 or 8.
     #[inline(always)]
     pub fn read(&self, address: u64, width: u64) -> Option<u64>
         requires { IsWidth width }
@@ -106,8 +106,8 @@ impl Image {
         self.number(Access::Read, address, width)
     }
 
-    /// Sets the low bytes of the value at the `width` bytes from the address on. Where one of them is not mapped with PF_W it
-    /// changes nothing, and gives false. The width is 1, 2, 4 or 8.
+    /// Sets the low bytes of the value at the `width` bytes from the address on. If one of them is not mapped with
+    /// PF_W, it changes nothing and returns false. The width is 1, 2, 4 or 8.
     #[inline(always)]
     pub fn write(&mut self, address: u64, width: u64, value: u64) -> Result<bool, AllocError>
         requires { IsWidth width }
@@ -153,11 +153,11 @@ impl Image {
         Some(word as u32)
     }
 
-    /// The bytes of the page of an address, where they may be executed and not written, so that a `write` leaves them as they
-    /// are; or None where the address has no such byte.
+    /// The bytes of the page of an address, if they may be executed and not written, so that a `write` leaves them as
+    /// they are; or None if the address has no such byte.
     #[tactic(auto, using(crate::proofs::FixedLaws::none_no_code, crate::proofs::FixedLaws::first_no_code, crate::proofs::FixedLaws::if_none))]
     pub fn code(&self, address: u64) -> Result<Option<Code>, AllocError>
-        ensures fixed { IfOk result (λ found. IfSome found (IsFixed self.now)) }
+        ensures fixed { IfOk result (λ found. IfSome found (IsFixedCode self.now)) }
         ensures some { IfOk result (λ found. IfSome found (λ code. has code address ≡ true)) }
         ensures none { IfOk result (λ found. IfNone found (has_code self.now address ≡ false)) }
     {
@@ -206,8 +206,8 @@ impl Image {
         })
     }
 
-    /// Whether another image is equal. It may say no where it is: where there are more than so many pages, and where theirs end
-    /// elsewhere.
+    /// Whether another image is equal. It may be false for an equal one, if there are more than `pages` pages and
+    /// theirs end elsewhere.
     pub fn is_same(&self, other: &Image, pages: u64) -> bool
         ensures { result ≡ true → self.now ≡ other.now }
     {
@@ -217,7 +217,7 @@ impl Image {
     /// The page that has the address.
     fn page(&self, address: u64) -> Option<&Held>
         ensures none { IfNone result (get self.now address ≡ None) }
-        ensures some { IfSome result (λ page. Holds self.now page.now address) }
+        ensures some { IfSome result (λ page. HoldsSegment self.now page.now address) }
     {
         let at = place(self.pages.as_slice(), self.near[slot(address)], address)?;
         Some(&self.pages.as_slice()[at])
@@ -255,7 +255,7 @@ impl Image {
         number_within(self.pages.as_slice(), at, access, address, width)
     }
 
-    /// The same, where the page is remembered.
+    /// The number of an access; its page is sought among those that are remembered first.
     #[inline(always)]
     fn number_near(&mut self, access: Access, address: u64, width: u64) -> Option<u64>
         requires some { 0 < width }
@@ -271,7 +271,7 @@ impl Image {
         self.number_far(access, address, width)
     }
 
-    /// The same, where the page has to be found.
+    /// The number of an access; its page is found and remembered.
     #[inline(never)]
     fn number_far(&mut self, access: Access, address: u64, width: u64) -> Option<u64>
         requires some { 0 < width }
@@ -284,7 +284,7 @@ impl Image {
         self.number(access, address, width)
     }
 
-    /// The same, each byte sought for itself.
+    /// The number of an access, with each byte sought for itself.
     #[inline(never)]
     #[tactic(auto, using(crate::proofs::NumberLaws::taken_none, crate::proofs::NumberLaws::taken_more, crate::proofs::NumberLaws::taken_fits, crate::proofs::NumberLaws::taken_all, crate::proofs::NumberLaws::taken_refused))]
     fn number_apart(&self, access: Access, address: u64, width: u64) -> Option<u64>

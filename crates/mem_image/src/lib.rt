@@ -1,5 +1,5 @@
-//! The memory of a machine: bytes with permissions, made from segments, in pages that copies share until one is written.
-//! Contracts see it as the finite map `Memory` from an address to a byte and its permissions, and nothing of how it is kept.
+//! The memory of a machine: bytes with permissions, made from segments, in pages that copies share until one is
+//! written. Contracts see the finite map `Memory` from addresses to bytes and permissions, not how it is kept.
 #![tactic(auto)]
 
 mod apart;

@@ -68,7 +68,7 @@ impl Page {
         }
     }
 
-    /// The same, of any width, from the lowest byte on, which LLVM makes one load of.
+    /// The number of bytes of any width, from the lowest byte on, which LLVM makes one load of.
     #[inline(always)]
     #[tactic(auto, using(crate::proofs::WholeLaws::gathered_none, crate::proofs::WholeLaws::gathered_fits, crate::proofs::WholeLaws::gathered_more))]
     fn gather(&self, at: usize, width: u64) -> u64
@@ -102,7 +102,7 @@ impl Page {
         }
     }
 
-    /// The same, of any width.
+    /// Sets the low bytes of a value at any number of places.
     #[inline(always)]
     fn scatter(&mut self, at: usize, width: u64, value: u64)
         requires within { at + width ≤ PAGE }

@@ -2,7 +2,7 @@
 ghost use Rattle.std.specs.Prelude.{◌≡◌, ◌<◌, ◌≤◌, false, true, cond, length, IfOk, IfErr};
 ghost use Rattle.machine.specs.Memory.{grants, put};
 ghost use Rattle.machine.specs.Program.{memory_of};
-ghost use Rattle.mem_image.specs.Overlap.{AreSound};
+ghost use Rattle.mem_image.specs.Overlap.{AreImage};
 ghost use Rattle.mem_image.specs.Segments.{IsWholeAt};
 
 use crate::apart::put_from;
@@ -20,19 +20,19 @@ pub struct Pages {
 impl Model for Pages {
     ghost use Rattle.std.specs.Prelude.{List};
     ghost use Rattle.machine.specs.Program.{LoadSegment};
-    ghost use Rattle.mem_image.specs.Overlap.{AreSound};
+    ghost use Rattle.mem_image.specs.Overlap.{AreImage};
 
     ghost Value = { List LoadSegment };
 
     ghost view = { λ p. p.all.items };
 
-    ghost invariant = { λ p. AreSound p.all.items };
+    ghost invariant = { λ p. AreImage p.all.items };
 }
 
 impl Pages {
     /// These pages.
     pub fn of(pages: Vec<Held>) -> Pages
-        requires { AreSound pages.items }
+        requires { AreImage pages.items }
         ensures { result ≡ pages.items }
     {
         Pages { all: pages }
@@ -42,13 +42,13 @@ impl Pages {
     #[inline(always)]
     pub fn as_slice(&self) -> &[Held]
         ensures value { result.now ≡ self.now }
-        ensures sound { AreSound result.now }
+        ensures sound { AreImage result.now }
     {
         &self.all
     }
 
-    /// Sets the low bytes of a value at at most 8 addresses, where page number `near` has eight bytes from the first on, they may be
-    /// written, and it has no other owner. Else nothing changes, and the answer is false.
+    /// Sets the low bytes of a value at at most 8 addresses, if page number `near` has eight bytes from the first on,
+    /// they may be written, and it has no other owner. Else nothing changes, and the answer is false.
     #[inline(always)]
     pub fn write_near(&mut self, near: usize, address: u64, width: u64, value: u64) -> bool
         requires { width ≤ 8 }
@@ -59,8 +59,8 @@ impl Pages {
         put_near(&mut self.all, near, address, width, value)
     }
 
-    /// Sets the low bytes of a value at at most 8 addresses, which the page of this number has. Where it may not be written, nothing
-    /// changes, and the answer is false.
+    /// Sets the low bytes of a value at at most 8 addresses, which the page of this number has. If it may not be
+    /// written, nothing changes, and the answer is false.
     pub fn write(
         &mut self,
         at: usize,
@@ -98,7 +98,7 @@ impl Pages {
         all_same(&self.all, &other.all)
     }
 
-    /// The same pages, whose bytes are shared.
+    /// A copy that shares the bytes of the pages.
     pub fn copy(&self) -> Result<Pages, AllocError>
         ensures { IfOk result (λ pages. pages ≡ self.now) }
     {

@@ -1,7 +1,7 @@
 //! The pages of segments.
 ghost use Rattle.std.specs.Prelude.{◌≡◌, ℕ, ◌+◌, ◌<◌, ◌≤◌, ◌^◌, [], length, IfOk, IfNone, IfSome};
 ghost use Rattle.std.specs.List.Sorted.{IsNonDecreasingBy};
-ghost use Rattle.mem_image.specs.Overlap.{segment_of, segments_of, AreSound};
+ghost use Rattle.mem_image.specs.Overlap.{plain_segment, segments_of, AreImage};
 ghost use Rattle.mem_image.specs.Pages.{Below, HoldsFrom, IsPaged, Orders};
 ghost use Rattle.machine.specs.Apart.{AllFitMemory, FitsMemory, AreApart};
 ghost use Rattle.machine.specs.Cells.{cell_among};
@@ -37,10 +37,10 @@ fn push_pages(
     zeros: &Rc<Page>,
     spec: &SegmentSpec,
 ) -> Result<(), AllocError>
-    requires fits { FitsMemory (segment_of spec.now) }
+    requires fits { FitsMemory (plain_segment spec.now) }
     requires below { Below pages.old.items spec.now.address }
     requires zeros { HoldsFrom [] 0 zeros.now.value.bytes }
-    ensures { IfOk result (λ _. IsPaged pages.old.items (segment_of spec.now) pages.new.items spec.now.memory) }
+    ensures { IfOk result (λ _. IsPaged pages.old.items (plain_segment spec.now) pages.new.items spec.now.memory) }
 {
     let memory = spec.memory;
     let mut from = 0;
@@ -57,7 +57,7 @@ pub fn pages_of(alloc: Global, specs: &[SegmentSpec]) -> Result<Option<Vec<Held>
     requires { AllFitMemory (segments_of specs.now) }
     ensures apart { IfOk result (λ made. IfSome made (λ _. AreApart (segments_of specs.now))) }
     ensures shared { IfOk result (λ made. IfNone made (¬ (AreApart (segments_of specs.now)))) }
-    ensures sound { IfOk result (λ made. IfSome made (λ pages. AreSound pages.items)) }
+    ensures sound { IfOk result (λ made. IfSome made (λ pages. AreImage pages.items)) }
     ensures same { IfOk result (λ made. IfSome made (λ pages. (q : ℕ) → cell_among pages.items q ≡ cell_among (segments_of specs.now) q)) }
 {
     let order = in_order(alloc, specs)?;

@@ -1,7 +1,7 @@
 //! Where the page of an address is found.
 ghost use Rattle.std.specs.Prelude.{◌≡◌, ℕ, ◌<◌, ◌≤◌, length, IfNone, IfSome, None, Some, slice_get};
 ghost use Rattle.machine.specs.Program.{LoadSegment};
-ghost use Rattle.mem_image.specs.Overlap.{Ascends, AreSound};
+ghost use Rattle.mem_image.specs.Overlap.{Ascends, AreImage};
 ghost use Rattle.machine.specs.Cells.{cell_among};
 ghost use Rattle.mem_image.specs.Segments.{IsFirst, IsWholeAt};
 
@@ -32,7 +32,7 @@ fn begun(pages: &[Held], address: u64) -> usize
 #[inline(never)]
 #[tactic(auto, using(crate::proofs::SegmentLaws::stands_at, crate::proofs::PlaceLaws::first_near, crate::proofs::PlaceLaws::none_begun, crate::proofs::PlaceLaws::none_near))]
 fn first_with(pages: &[Held], address: u64) -> Option<usize>
-    requires { AreSound pages.now }
+    requires { AreImage pages.now }
     ensures none { IfNone result (cell_among pages.now address ≡ None) }
     ensures some { IfSome result (λ k. IsFirst pages.now address k) }
     ensures below { IfSome result (λ k. k < length pages.now) }
@@ -47,7 +47,7 @@ fn first_with(pages: &[Held], address: u64) -> Option<usize>
 /// The page that has the address. It may be number `near`.
 #[tactic(auto, using(crate::proofs::SegmentLaws::stands_at, crate::proofs::PlaceLaws::first_near))]
 pub fn place(pages: &[Held], near: usize, address: u64) -> Option<usize>
-    requires { AreSound pages.now }
+    requires { AreImage pages.now }
     ensures none { IfNone result (cell_among pages.now address ≡ None) }
     ensures some { IfSome result (λ k. IsFirst pages.now address k) }
     ensures below { IfSome result (λ k. k < length pages.now) }
@@ -61,7 +61,7 @@ pub fn place(pages: &[Held], near: usize, address: u64) -> Option<usize>
 /// Page number `near`, where it has all of the bytes of an access.
 #[inline(always)]
 fn near_at(pages: &[Held], near: usize, address: u64, width: u64) -> Option<usize>
-    requires { AreSound pages.now }
+    requires { AreImage pages.now }
     ensures some { IfSome result (λ k. IsWholeAt pages.now address width k) }
     ensures below { IfSome result (λ k. k < length pages.now) }
 {
@@ -74,7 +74,7 @@ fn near_at(pages: &[Held], near: usize, address: u64, width: u64) -> Option<usiz
 /// The page that has all of the bytes of an access, or None. It may be number `near`.
 #[inline(always)]
 pub fn whole_at(pages: &[Held], near: usize, address: u64, width: u64) -> Option<usize>
-    requires { AreSound pages.now }
+    requires { AreImage pages.now }
     ensures some { IfSome result (λ k. IsWholeAt pages.now address width k) }
     ensures below { IfSome result (λ k. k < length pages.now) }
 {
@@ -84,10 +84,10 @@ pub fn whole_at(pages: &[Held], near: usize, address: u64, width: u64) -> Option
     whole_far(pages, address, width)
 }
 
-/// The same, of any page.
+/// The page that has all of the bytes of an access, sought among all pages.
 #[inline(never)]
 fn whole_far(pages: &[Held], address: u64, width: u64) -> Option<usize>
-    requires { AreSound pages.now }
+    requires { AreImage pages.now }
     ensures some { IfSome result (λ k. IsWholeAt pages.now address width k) }
     ensures below { IfSome result (λ k. k < length pages.now) }
 {

@@ -17,8 +17,8 @@ impl Pass for Mirror {
     ghost use Rattle.std.specs.Prelude.{[]};
     ghost use Rattle.machine.specs.Step.{step};
     ghost use Rattle.qed_model.specs.Weave.Forms.{mirror_of};
-    ghost use Rattle.passes.specs.Pass.{Does, same};
-    ghost use Rattle.eddi_dup.specs.Parts.{Runs};
+    ghost use Rattle.passes.specs.Pass.{Does, same_state};
+    ghost use Rattle.eddi_dup.specs.Parts.{StandsBefore};
     ghost use Rattle.mirror_forms.specs.Laws.{any, mirror_cost, quiet_mirror, honest_mirror, lockstep_mirror};
 
     ghost is_for = { λ p i at. FitsPiece i };
@@ -31,9 +31,9 @@ impl Pass for Mirror {
 
     ghost cost = { λ p i. mirror_cost p.diverse i };
 
-    ghost needs = { λ p i at w v. Runs w i at v.shadow };
+    ghost needs = { λ p i at w v. StandsBefore w i at v.shadow };
 
-    ghost gives = { λ p i at w. Does w same step 0 };
+    ghost gives = { λ p i at w. Does w same_state step 0 };
 
     ghost leaves = { λ p i at w v n z. ⊥ };
 

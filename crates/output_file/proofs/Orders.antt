@@ -7,7 +7,7 @@ use Rattle.std.proofs.lemmas.Bool.{eqb-true, eq-eqb, leb-true, leb-false, cases_
 use Rattle.std.proofs.lemmas.List.{get_or-map, length-map}
 use Rattle.std.proofs.lemmas.List.Sums.{sum_by-cons}
 use Rattle.std.proofs.lemmas.List.Sorted.{sum_by-IsPermutation, All-permutation, IsPermutation-sym}
-use Rattle.tests.specs.Admission.Places.{insert_segment, in_order, Segment}
+use Rattle.tests.specs.Admission.Places.{insert_segment, by_address, Segment}
 use Rattle.machine.proofs.Lemmas.{all_among, every_all, among_every}
 use Rattle.machine.specs.Members.{Among}
 use Rattle.tests.proofs.Lemmas.{ordered_among, among-ordered}
@@ -128,9 +128,9 @@ rise-insert low s (t ∷ ts) r le ne = by (nat_le s.address t.address) refl (λ 
   by true e rec = let h = leb-true s.address t.address e in (le, (⊎_elim (λ lt. omega (arith, lt)) (λ ge. absurd (ne t (inl refl) (omega (arith, h, ge)))) (cases_lt s.address t.address), r.1))
   by false e rec = let h = leb-false s.address t.address e in (r.0, rec (omega (arith, h)))
 
-rise-order : (ss : List Segment) → AreOnce ss → Rise 0 (in_order ss)
+rise-order : (ss : List Segment) → AreOnce ss → Rise 0 (by_address ss)
 rise-order [] h = tt
-rise-order (s ∷ ss) h = rise-insert 0 s (in_order ss) (rise-order ss (once_tail s ss h)) (omega arith) (λ t m. once_head s ss h t (ordered_among ss t m))
+rise-order (s ∷ ss) h = rise-insert 0 s (by_address ss) (rise-order ss (once_tail s ss h)) (omega arith) (λ t m. once_head s ss h t (ordered_among ss t m))
 
 -- a sorted list rises
 pub sorted_rises : (low : ℕ) (ss : List Segment) → IsNonDecreasingBy (λ s. s.address) ss → AreOnce ss → ((s : Segment) → Among s ss → low ≤ s.address) → Rise low ss
@@ -147,9 +147,9 @@ sorted_rises low (s ∷ t ∷ ss) up h le =
     behind : (u : Segment) → Among u (t ∷ ss) → t.address ≤ u.address → s.address ≤ t.address → s.address + 1 ≤ u.address
     behind u m a b = ⊎_elim (λ x. omega (arith, x)) (λ x. absurd (once_head s (t ∷ ss) h u m (omega (arith, x, a, b)))) (cases_lt s.address u.address)
 
-pub order_is : (xs ys : List Segment) → IsPermutation xs ys → IsNonDecreasingBy (λ s. s.address) ys → AreOnce xs → ys ≡ in_order xs
+pub order_is : (xs ys : List Segment) → IsPermutation xs ys → IsNonDecreasingBy (λ s. s.address) ys → AreOnce xs → ys ≡ by_address xs
 order_is xs ys p up h =
-    rise_same 0 0 ys (in_order xs) (sorted_rises 0 ys up (once-permuted xs ys p h) (λ s m. omega arith)) (rise-order xs h)
+    rise_same 0 0 ys (by_address xs) (sorted_rises 0 ys up (once-permuted xs ys p h) (λ s m. omega arith)) (rise-order xs h)
     (λ s m. among-ordered xs s (permuted_among s xs ys p m))
     (λ s m. among_permuted s xs ys p (ordered_among xs s m))
 

@@ -8,7 +8,7 @@ use Rattle.qed_model.specs.declared.plan.PieceRow.{PieceRow}
 use Rattle.tests.specs.declared.test.Test.{Test}
 use Rattle.tests.specs.Admission.Test.{IsTestOf}
 use Rattle.block_split.specs.declared.block.CodeBlock.{CodeBlock}
-use Rattle.block_split.specs.Listed.{IsWithin}
+use Rattle.block_split.specs.Listed.{IsWithinTop}
 use Rattle.qed_model.specs.Weave.Woven.{NewCode, size_of_code, entries_in}
 
 -- the parts of a plan: the test, the size of its new code, the entries and the bounds
@@ -20,7 +20,7 @@ pub record AreParts (c : NewCode) (f : ElfFile) (o : Options) (t : Test) (entrie
 
 -- the pieces make up the body of the block, which ends at 2^63 or before
 abbrev pub IsWhole : CodeBlock → Type 0
-IsWhole b = IsWithin (2 ^ 63) b
+IsWhole b = IsWithinTop (2 ^ 63) b
 
 -- ---- pieces of known lengths that stand one behind the other
 -- the row of each piece

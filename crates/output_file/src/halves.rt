@@ -22,7 +22,8 @@ fn is_in_any(ranges: &[Range], address: u64) -> bool
 
 /// The segments that lie in no data range, not executed.
 fn others(alloc: Global, segments: &[Segment], ranges: &[Range]) -> Result<Vec<Segment>, AllocError>
-    ensures { IfOk result (λ out. AreSpaced range_of ranges.now → out.items ≡ copies 0 (filter (λ s. not (is_in_any_of (map range_of ranges.now) s.address)) segments.now)) }
+    ensures { IfOk result (λ out. AreSpaced range_of ranges.now
+        → out.items ≡ copies 0 (filter (λ s. not (is_in_any_of (map range_of ranges.now) s.address)) segments.now)) }
 {
     let mut out = Vec::new(alloc);
     for segment in segments {

@@ -35,7 +35,8 @@ fn table_part(
     entries: &[EntryRow],
     distance: u64,
 ) -> Result<Option<Segment>, AllocError>
-    ensures { IfOk result (λ part. (high : ℕ) → AreEntries high entries.now → high + 2 * distance < 2 ^ 64 → part ≡ (if table then Some (table_segment_of distance entries.now) else None)) }
+    ensures { IfOk result (λ part. (high : ℕ) → AreEntries high entries.now
+        → high + 2 * distance < 2 ^ 64 → part ≡ (if table then Some (table_segment_of distance entries.now) else None)) }
 {
     if !table {
         return Ok(None);
@@ -84,7 +85,8 @@ pub fn bare_file(
     test: &Test,
     code: &Code<'_>,
 ) -> Result<OutFile, AllocError>
-    ensures { IfOk result (λ out. (o : TestOptions) → IsEntered file.now o test.now code.now.entries.now → out ≡ record (file_of file.now o.half code.now.table code.now.entries.now (bytes_of_words code.now.words.now)) { symbols = [] }) }
+    ensures { IfOk result (λ out. (o : TestOptions) → IsEntered file.now o test.now code.now.entries.now
+        → out ≡ record (file_of file.now o.half code.now.table code.now.entries.now (bytes_of_words code.now.words.now)) { symbols = [] }) }
 {
     let (image, span) = (test.segments.as_slice(), test.span.as_slice());
     let mut segments = halves(alloc, image, span, test.distance)?;

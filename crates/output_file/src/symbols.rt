@@ -1,7 +1,8 @@
 //! The symbols of the output.
 ghost use Rattle.std.specs.Prelude.{◌≡◌, List, ◌++◌, ◌&&◌, not, filter, if◌then◌else◌, OnOk, IfOk};
 ghost use Rattle.qed_model.specs.declared.plan.EntryRow.{EntryRow};
-ghost use Rattle.qed_model.specs.Weave.OutputParts.{is_kept as is_kept_of, is_local as is_local_of, valued as valued_of, out_symbol as out_symbol_of, symbol_group, out_symbols};
+ghost use Rattle.qed_model.specs.Weave.OutputParts.{is_kept as is_kept_of, is_local as is_local_of, valued as valued_of, out_symbol as out_symbol_of};
+ghost use Rattle.qed_model.specs.Weave.OutputParts.{symbol_group, out_symbols};
 ghost use Rattle.qed_model.specs.Weave.Placed.{entry_at as entry_at_of, EntriesAscend};
 ghost use Rattle.output_file.specs.Sizes.{symbols_room};
 

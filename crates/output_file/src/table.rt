@@ -1,6 +1,7 @@
 //! The table, by which a JALR finds the entry of an input address.
 ghost use Rattle.std.specs.Prelude.{◌≡◌, ℕ, ◌+◌, ◌*◌, ◌^◌, ◌<◌, IfOk, map};
-ghost use Rattle.qed_model.specs.Weave.OutputFile.{looks_up as looks_up_of, has_table as has_table_of, first_input as first_input_of, table_bytes as table_bytes_of, table_segment as table_segment_of};
+ghost use Rattle.qed_model.specs.Weave.OutputFile.{looks_up as looks_up_of, has_table as has_table_of, first_input as first_input_of};
+ghost use Rattle.qed_model.specs.Weave.OutputFile.{table_bytes as table_bytes_of, table_segment as table_segment_of};
 ghost use Rattle.block_split.specs.Listed.{end_of, block_of};
 ghost use Rattle.output_file.specs.Laid.{laid};
 ghost use Rattle.output_file.specs.Entries.{AreEntries, entry_distance, entry_word};

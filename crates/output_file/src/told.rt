@@ -78,7 +78,8 @@ pub fn plan(
     code: &Code<'_>,
     bounds: Bounds,
 ) -> Result<Plan, AllocError>
-    ensures { IfOk result (λ plan. (c : NewCode) (f : ElfFile) (o : Options) → All IsWhole blocks.now → AreParts c f o test.now code.now.entries.now code.now.bytes bounds → IsToldOf c f o (map block_of blocks.now) plan) }
+    ensures { IfOk result (λ plan. (c : NewCode) (f : ElfFile) (o : Options) → All IsWhole blocks.now
+        → AreParts c f o test.now code.now.entries.now code.now.bytes bounds → IsToldOf c f o (map block_of blocks.now) plan) }
 {
     let pieces = piece_rows(alloc, blocks)?;
     Ok(Plan {

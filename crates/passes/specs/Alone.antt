@@ -16,7 +16,7 @@ pub data Differs (c : ℕ → Fetched) (s : State) : Type 0 where
   sign_differs : (b t : ℕ) → s.pc ≡ b + 8 → EntryWords c b t → (reg s SIGNATURE ≡ reg s TEMPORARY → ⊥) → Differs c s
 
 -- a state, with any values, that goes on at word k of the items; the word is not an EBREAK, and a JALR leads to none
-pub record Inside (far : Bool) (items : List Item) (c : ℕ → Fetched) (entry : ℕ → ℕ) (a k : ℕ) (s : State) : Type 0 where
+pub record InsideItems (far : Bool) (items : List Item) (c : ℕ → Fetched) (entry : ℕ → ℕ) (a k : ℕ) (s : State) : Type 0 where
   pub over : Over c s
   pub words : HasAt c a (instructions_from far entry a items)
   pub near : a + 4 * length (instructions_from far entry a items) + 64 < 2 ^ 64
@@ -29,4 +29,5 @@ pub record Inside (far : Bool) (items : List Item) (c : ℕ → Fetched) (entry 
 
 -- among the words of honest items, if the next step leads to an EBREAK, something differs
 abbrev pub ChecksAlone : Type 0
-ChecksAlone = (far : Bool) (items : List Item) → HonestItems far items → (c : ℕ → Fetched) (entry : ℕ → ℕ) (a k : ℕ) (s : State) → Inside far items c entry a k s → (step s).outcome ≡ Going → c (step s).pc ≡ ebreak → Differs c s
+ChecksAlone = (far : Bool) (items : List Item) → HonestItems far items → (c : ℕ → Fetched) (entry : ℕ → ℕ) (a k : ℕ) (s : State)
+    → InsideItems far items c entry a k s → (step s).outcome ≡ Going → c (step s).pc ≡ ebreak → Differs c s

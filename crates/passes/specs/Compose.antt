@@ -11,7 +11,9 @@ pub use Rattle.weave_core.proofs.Lemmas.{leads_led, quiet_then, lockstep_then, l
 -- ---- Honest
 honest_append : (c : ℕ → Fetched) (a : ℕ) (xs ys : List Ins) → AllHonest c a xs → AllHonest c (a + 4 * length xs) ys → AllHonest c a (xs ++ ys)
 honest_append c a [] ys h k = let s : a + 0 ≡ a = omega arith in subst (λ b. AllHonest c b ys) s k
-honest_append c a (x ∷ xs) ys h k = let s : a + 4 * suc (length xs) ≡ a + 4 + 4 * length xs = omega arith in (h.0, honest_append c (a + 4) xs ys h.1 (subst (λ b. AllHonest c b ys) s k))
+honest_append c a (x ∷ xs) ys h k =
+    let s : a + 4 * suc (length xs) ≡ a + 4 + 4 * length xs = omega arith in
+    (h.0, honest_append c (a + 4) xs ys h.1 (subst (λ b. AllHonest c b ys) s k))
 
 pub honest_items_then : (far : Bool) (xs ys : List Item) → HonestItems far xs → HonestItems far ys → HonestItems far (xs ++ ys)
 honest_items_then far xs ys x y c e a near has calm en =

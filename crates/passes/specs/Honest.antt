@@ -61,4 +61,6 @@ pub record HonestAt (far : Bool) (items : List Item) (c : ℕ → Fetched) (entr
 
 abbrev pub HonestItems : Bool → List Item → Type 0
 HonestItems far items =
-    (c : ℕ → Fetched) (entry : ℕ → ℕ) (a : ℕ) → a + 4 * length (instructions_from far entry a items) + 64 < 2 ^ 64 → HasAt c a (instructions_from far entry a items) → NoBreak c (a + 4 * length (instructions_from far entry a items)) → CalmEntries c entry → HonestAt far items c entry a
+    (c : ℕ → Fetched) (entry : ℕ → ℕ) (a : ℕ) → a + 4 * length (instructions_from far entry a items) + 64 < 2 ^ 64
+    → HasAt c a (instructions_from far entry a items) → NoBreak c (a + 4 * length (instructions_from far entry a items))
+    → CalmEntries c entry → HonestAt far items c entry a

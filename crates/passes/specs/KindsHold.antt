@@ -22,4 +22,6 @@ pub record KindAt (c : ℕ → Fetched) (a : ℕ) : Type 0 where
   pub lands : LandsAs (class_of ins.kind) c a ins
 
 abbrev pub KindsHold : Type 0
-KindsHold = (far : Bool) (items : List Item) → LockItems far items → LandItems far items → (c : ℕ → Fetched) (entry : ℕ → ℕ) (a : ℕ) (behind : List Ins) → Before far items c entry a behind → Opens c a × ((k : ℕ) → k < length (instructions_from far entry a items) → KindAt c (a + 4 * k))
+KindsHold = (far : Bool) (items : List Item) → LockItems far items → LandItems far items
+    → (c : ℕ → Fetched) (entry : ℕ → ℕ) (a : ℕ) (behind : List Ins) → Before far items c entry a behind
+    → Opens c a × ((k : ℕ) → k < length (instructions_from far entry a items) → KindAt c (a + 4 * k))

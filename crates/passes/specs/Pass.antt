@@ -2,7 +2,7 @@
 use Rattle.std.specs.Prelude.{Bool, List}
 use Rattle.qed_model.specs.declared.item.Item.{Item}
 use Rattle.passes.specs.Honest.{HonestItems}
-pub use Rattle.weave_core.specs.Pass.{Views, Stands, Chain, NeedsBoth, Does, same, Leads, Quiet, Lockstep, AllLow, AllSame}
+pub use Rattle.weave_core.specs.Pass.{Views, StandsAt, Chain, NeedsBoth, Does, same_state, Leads, Quiet, Lockstep, AllLow, AllSame}
 
 -- ---- Honest
 -- an EBREAK of the items is reached only if a pair, a word and its duplicate, or a signature and its entry differ

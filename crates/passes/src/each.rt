@@ -41,7 +41,8 @@ pub trait PassAll {
         ensures all { OnOk result (out.new ≡ out.old ++ items self.now list.now first) }
         ensures part { OnErr result (AppendsPart out.old out.new (items self.now list.now first)) };
 
-    ghost quiet: { (p : Self) (is : List Ins) (at : ℕ) → is_for p is at → Quiet (suits p) (items p is at) (needs p is at) (gives p is at) (leaves p is at) (cost p is) };
+    ghost quiet: { (p : Self) (is : List Ins) (at : ℕ)
+        → is_for p is at → Quiet (suits p) (items p is at) (needs p is at) (gives p is at) (leaves p is at) (cost p is) };
 
     ghost honest: { (p : Self) (is : List Ins) (at : ℕ) → is_for p is at → Honest (suits p) (items p is at) };
 
@@ -81,7 +82,8 @@ impl<A: Pass> PassAll for Each<A> {
         Ok(())
     }
 
-    ghost quiet = { λ e is at f. quiet_each next_at (A.suits e.pass) (A.is_for e.pass) (A.uses e.pass) (A.items e.pass) (A.needs e.pass) (A.gives e.pass) (A.leaves e.pass) (A.cost e.pass) (A.quiet e.pass) is at f };
+    ghost quiet = { λ e is at f. quiet_each next_at (A.suits e.pass) (A.is_for e.pass) (A.uses e.pass)
+        (A.items e.pass) (A.needs e.pass) (A.gives e.pass) (A.leaves e.pass) (A.cost e.pass) (A.quiet e.pass) is at f };
 
     ghost honest = { λ e is at f. honest_each (A.suits e.pass) (A.is_for e.pass) (A.uses e.pass) (A.items e.pass) (A.honest e.pass) is at f };
 
@@ -141,7 +143,8 @@ impl<A: PassAll, B: PassAll> PassAll for Then<A, B> {
 
     ghost gives = { λ t is at w v. Chain v (A.cost t.first is) (A.gives t.first is at w v) (B.gives t.second is at w) };
 
-    ghost leaves = { λ t is at w v n z. A.leaves t.first is at w v n z ⊎ Chain v (A.cost t.first is) (A.gives t.first is at w v) (B.leaves t.second is at w) n z };
+    ghost leaves = { λ t is at w v n z. A.leaves t.first is at w v n z
+        ⊎ Chain v (A.cost t.first is) (A.gives t.first is at w v) (B.leaves t.second is at w) n z };
 
     #[tactic(auto, using(crate::specs::Emitted::part_first, crate::specs::Emitted::part_second))]
     fn emit_all(&self, list: &[Ins], first: u64, out: &mut Emit) -> Result<(), AllocError> {
@@ -150,11 +153,15 @@ impl<A: PassAll, B: PassAll> PassAll for Then<A, B> {
         Ok(())
     }
 
-    ghost quiet = { λ t is at h. quiet_then (A.suits t.first) (B.suits t.second) (A.items t.first is at) (B.items t.second is at) (A.needs t.first is at) (B.needs t.second is at) (A.gives t.first is at) (A.leaves t.first is at) (B.gives t.second is at) (B.leaves t.second is at) (A.cost t.first is) (B.cost t.second is) (A.quiet t.first is at h.0) (B.quiet t.second is at h.1) };
+    ghost quiet = { λ t is at h. quiet_then (A.suits t.first) (B.suits t.second) (A.items t.first is at) (B.items t.second is at)
+        (A.needs t.first is at) (B.needs t.second is at) (A.gives t.first is at) (A.leaves t.first is at) (B.gives t.second is at)
+        (B.leaves t.second is at) (A.cost t.first is) (B.cost t.second is) (A.quiet t.first is at h.0) (B.quiet t.second is at h.1) };
 
-    ghost honest = { λ t is at h. honest_then (A.suits t.first) (B.suits t.second) (A.items t.first is at) (B.items t.second is at) (A.honest t.first is at h.0) (B.honest t.second is at h.1) };
+    ghost honest = { λ t is at h. honest_then (A.suits t.first) (B.suits t.second)
+        (A.items t.first is at) (B.items t.second is at) (A.honest t.first is at h.0) (B.honest t.second is at h.1) };
 
-    ghost lockstep = { λ t is at h. lockstep_then (A.suits t.first) (B.suits t.second) [] [] (A.items t.first is at) (B.items t.second is at) refl (A.lockstep t.first is at h.0) (B.lockstep t.second is at h.1) };
+    ghost lockstep = { λ t is at h. lockstep_then (A.suits t.first) (B.suits t.second) [] [] (A.items t.first is at)
+        (B.items t.second is at) refl (A.lockstep t.first is at h.0) (B.lockstep t.second is at h.1) };
 }
 
 /// The items of a list, alone: they lead on as the pass says, their checks are honest, and they
@@ -167,7 +174,8 @@ pub fn emitted<P: PassAll>(
 ) -> Result<Emit, AllocError>
     requires { P.is_for pass.now list.now first }
     ensures items { IfOk result (λ out. out ≡ P.items pass.now list.now first) }
-    ensures quiet { IfOk result (λ out. Quiet (P.suits pass.now) out (P.needs pass.now list.now first) (P.gives pass.now list.now first) (P.leaves pass.now list.now first) (P.cost pass.now list.now)) }
+    ensures quiet { IfOk result (λ out. Quiet (P.suits pass.now) out (P.needs pass.now list.now first)
+        (P.gives pass.now list.now first) (P.leaves pass.now list.now first) (P.cost pass.now list.now)) }
     ensures honest { IfOk result (λ out. Honest (P.suits pass.now) out) }
     ensures lockstep { IfOk result (λ out. Lockstep (P.suits pass.now) [] out) }
 {

@@ -94,9 +94,13 @@ impl<A: Pass, B: Pass> Pass for Then<A, B> {
         Ok(())
     }
 
-    ghost quiet = { λ t i at h. quiet_then (A.suits t.first) (B.suits t.second) (A.items t.first i at) (B.items t.second i at) (A.needs t.first i at) (B.needs t.second i at) (A.gives t.first i at) (A.leaves t.first i at) (B.gives t.second i at) (B.leaves t.second i at) (A.cost t.first i) (B.cost t.second i) (A.quiet t.first i at h.0) (B.quiet t.second i at h.1) };
+    ghost quiet = { λ t i at h. quiet_then (A.suits t.first) (B.suits t.second) (A.items t.first i at) (B.items t.second i at)
+        (A.needs t.first i at) (B.needs t.second i at) (A.gives t.first i at) (A.leaves t.first i at) (B.gives t.second i at)
+        (B.leaves t.second i at) (A.cost t.first i) (B.cost t.second i) (A.quiet t.first i at h.0) (B.quiet t.second i at h.1) };
 
-    ghost honest = { λ t i at h. honest_then (A.suits t.first) (B.suits t.second) (A.items t.first i at) (B.items t.second i at) (A.honest t.first i at h.0) (B.honest t.second i at h.1) };
+    ghost honest = { λ t i at h. honest_then (A.suits t.first) (B.suits t.second)
+        (A.items t.first i at) (B.items t.second i at) (A.honest t.first i at h.0) (B.honest t.second i at h.1) };
 
-    ghost lockstep = { λ t i at h. lockstep_then (A.suits t.first) (B.suits t.second) (A.uses t.first i) (B.uses t.second i) (A.items t.first i at) (B.items t.second i at) h.2 (A.lockstep t.first i at h.0) (B.lockstep t.second i at h.1) };
+    ghost lockstep = { λ t i at h. lockstep_then (A.suits t.first) (B.suits t.second) (A.uses t.first i) (B.uses t.second i)
+        (A.items t.first i at) (B.items t.second i at) h.2 (A.lockstep t.first i at h.0) (B.lockstep t.second i at h.1) };
 }

@@ -28,12 +28,23 @@ module _ (far : Bool) where
 
   wraps_honest : (rs : List (ℕ × ℕ)) (first : ℕ) → HonestItems far (wraps rs first)
   wraps_honest [] first = honest_items_none far
-  wraps_honest (r ∷ []) first = honest_items_then far (Constant TEMPORARY r.1 ∷ []) (Plain (ins Bne 0 CURSOR TEMPORARY (pos 12)) ∷ Constant CURSOR first ∷ []) (honest_constant far 30 r.1) (skip first)
-  wraps_honest (r ∷ n ∷ rs) first = honest_items_then far (Constant TEMPORARY r.1 ∷ []) (Plain (ins Bne 0 CURSOR TEMPORARY (pos 12)) ∷ Constant CURSOR n.0 ∷ wraps (n ∷ rs) first) (honest_constant far 30 r.1) (honest_items_then far (Plain (ins Bne 0 CURSOR TEMPORARY (pos 12)) ∷ Constant CURSOR n.0 ∷ []) (wraps (n ∷ rs) first) (skip n.0) (wraps_honest (n ∷ rs) first))
+  wraps_honest (r ∷ []) first = honest_items_then far (Constant TEMPORARY r.1 ∷ [])
+      (Plain (ins Bne 0 CURSOR TEMPORARY (pos 12)) ∷ Constant CURSOR first ∷ []) (honest_constant far 30 r.1) (skip first)
+  wraps_honest (r ∷ n ∷ rs) first =
+      honest_items_then far (Constant TEMPORARY r.1 ∷ [])
+      (Plain (ins Bne 0 CURSOR TEMPORARY (pos 12)) ∷ Constant CURSOR n.0 ∷ wraps (n ∷ rs) first)
+      (honest_constant far 30 r.1)
+      (honest_items_then far (Plain (ins Bne 0 CURSOR TEMPORARY (pos 12)) ∷ Constant CURSOR n.0 ∷ []) (wraps (n ∷ rs) first) (skip n.0)
+      (wraps_honest (n ∷ rs) first))
 
   word_honest : (spans : List (ℕ × ℕ)) → HonestItems far (visit_word spans)
   word_honest [] = honest_items_none far
-  word_honest (r ∷ rs) = honest_items_then far (visit_head far) (Plain (ins Addi CURSOR CURSOR 0 (pos 8)) ∷ wraps (r ∷ rs) r.0) (honest_head far) (honest_items_then far (Plain (ins Addi CURSOR CURSOR 0 (pos 8)) ∷ []) (wraps (r ∷ rs) r.0) (honest_on far (ins Addi CURSOR CURSOR 0 (pos 8)) class.Compute refl tt) (wraps_honest (r ∷ rs) r.0))
+  word_honest (r ∷ rs) =
+      honest_items_then far (visit_head far) (Plain (ins Addi CURSOR CURSOR 0 (pos 8)) ∷ wraps (r ∷ rs) r.0)
+      (honest_head far)
+      (honest_items_then far (Plain (ins Addi CURSOR CURSOR 0 (pos 8)) ∷ []) (wraps (r ∷ rs) r.0)
+      (honest_on far (ins Addi CURSOR CURSOR 0 (pos 8)) class.Compute refl tt)
+      (wraps_honest (r ∷ rs) r.0))
 
   times_honest : (n : ℕ) (is : List Item) → HonestItems far is → HonestItems far (times n is)
   times_honest zero is h = honest_items_none far
@@ -61,5 +72,6 @@ pub times_end : (n : ℕ) (is : List Item) → times (n - n) is ≡ []
 times_end n is = let e : n - n ≡ 0 = omega arith in ap (λ m. times m is) e
 
 -- a part of one repetition
-pub times_part : (old now new all : List Item) (n k : ℕ) (is : List Item) → k < n → Done old now all (times (n - k) is) → AppendsPart now new is → AppendsPart old new all
+pub times_part : (old now new all : List Item) (n k : ℕ) (is : List Item)
+    → k < n → Done old now all (times (n - k) is) → AppendsPart now new is → AppendsPart old new all
 times_part old now new all n k is h d p = done_part old now new all is (times (n - (k + 1)) is) (subst (Done old now all) (times_left n k is h) d) p

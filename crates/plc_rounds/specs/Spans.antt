@@ -13,5 +13,5 @@ spans_of [] = []
 spans_of (r ∷ rs) = (r.start, r.end) ∷ spans_of rs
 
 -- if the cursor is at `end`, it goes on at `next`
-abbrev pub wrap : ℕ → ℕ → List Item
-wrap end next = Constant TEMPORARY end ∷ Plain (ins Bne 0 CURSOR TEMPORARY (pos 12)) ∷ Constant CURSOR next ∷ []
+abbrev pub wrap_items : ℕ → ℕ → List Item
+wrap_items end next = Constant TEMPORARY end ∷ Plain (ins Bne 0 CURSOR TEMPORARY (pos 12)) ∷ Constant CURSOR next ∷ []

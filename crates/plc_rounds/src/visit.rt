@@ -2,7 +2,7 @@
 ghost use Rattle.std.specs.Prelude.{◌≡◌, ◌++◌, ◌∷◌, OnOk, OnErr};
 ghost use Rattle.qed_model.specs.Weave.Sequences.{wraps, visit_word};
 ghost use Rattle.passes.specs.Emitted.{AppendsPart};
-ghost use Rattle.plc_rounds.specs.Spans.{spans_of, wrap};
+ghost use Rattle.plc_rounds.specs.Spans.{spans_of, wrap_items};
 
 use passes::{Emit, Pass, plain};
 use qed_model::{Item, Range, Ranges};
@@ -19,7 +19,7 @@ pub struct Visit {
 
 /// If the cursor is at `end`, it goes on at `next`.
 fn put_wrap(end: u64, next: u64, out: &mut Emit) -> Result<(), AllocError>
-    ensures all { OnOk result (out.new ≡ out.old ++ wrap end next) }
+    ensures all { OnOk result (out.new ≡ out.old ++ wrap_items end next) }
     ensures none { OnErr result (out.new ≡ out.old) }
 {
     out.put(&[

@@ -2,12 +2,12 @@
 use Rattle.std.specs.Prelude.{◌≡◌, ℕ, ◌+◌, ◌-◌, ◌^◌, ◌≤◌, min, List}
 
 -- one more, up to the last value of a counter
-abbrev pub counted : ℕ → ℕ
-counted n = min (n + 1) (2 ^ 64 - 1)
+abbrev pub counted_up : ℕ → ℕ
+counted_up n = min (n + 1) (2 ^ 64 - 1)
 
 -- the count of a counter rose in the call, or stands at the counter's last value
 abbrev pub Rose : ℕ → ℕ → Type 0
-Rose before now = counted before ≤ now
+Rose before now = counted_up before ≤ now
 
 -- no name's count fell
 abbrev pub NoneFell : (List ℕ → ℕ) → (List ℕ → ℕ) → Type 0

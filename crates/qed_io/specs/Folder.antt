@@ -1,4 +1,4 @@
--- A folder as a store sees it, where it is told: the file of a name, and the new file beside it.
+-- A folder as a store sees it, if it is known: the file of a name, and the new file beside it.
 use Rattle.std.specs.Prelude.{◌≡◌, ◌≢◌, ◌⊎◌, ◌++◌, ℕ, Bool, true, false, List, [], Option, Some, None, Result, Ok, Err, IfSome, IsSomeAnd, MatchOption}
 use Rattle.std.specs.declared.io.ErrorKind.{ErrorKind}
 use Rattle.std.specs.declared.io.ErrorKind.TheVariants.{PermissionDenied, InvalidFilename, OutOfMemory}
@@ -6,8 +6,8 @@ use Rattle.qed_io.specs.Counts.{Rose}
 use Rattle.qed_io.specs.declared.shelf.StoreError.{StoreError}
 use Rattle.qed_io.specs.declared.shelf.StoreError.TheVariants as store
 
--- the bytes of the file of the name, if there is one, and of the new one; whether all bytes of the new one are on the disk, whether it was
--- given the rights of the old one, and how many calls to remove it failed
+-- the bytes of the file of the name, if there is one, and of the new one. Then: whether all bytes of the new one are on
+-- the disk, whether it has the rights of the old one, and how many calls to remove it failed
 pub record FolderState : Type 0 where
   pub old : Option (List ℕ)
   pub beside : Option (List ℕ)
@@ -15,17 +15,17 @@ pub record FolderState : Type 0 where
   pub has_rights : Bool
   pub stuck : ℕ
 
--- from what is told to what is told then, which are related; nothing where nothing was told
-abbrev pub Leads : (FolderState → FolderState → Type 0) → Option FolderState → Option FolderState → Type 0
-Leads P old new = MatchOption old (new ≡ None) (λ o. IsSomeAnd new (P o))
+-- what is known before and after is related; if nothing was known before, nothing is known after
+abbrev pub LeadsTold : (FolderState → FolderState → Type 0) → Option FolderState → Option FolderState → Type 0
+LeadsTold P old new = MatchOption old (new ≡ None) (λ o. IsSomeAnd new (P o))
 
 -- ---- what a call does
 abbrev pub Stays : FolderState → FolderState → Type 0
 Stays o n = n ≡ o
 
 -- the new file is there, and has no bytes
-abbrev pub IsMade : FolderState → FolderState → Type 0
-IsMade o n = n ≡ record { old = o.old; beside = Some []; is_synced = false; has_rights = false; stuck = o.stuck }
+abbrev pub IsEmptyFile : FolderState → FolderState → Type 0
+IsEmptyFile o n = n ≡ record { old = o.old; beside = Some []; is_synced = false; has_rights = false; stuck = o.stuck }
 
 abbrev pub HasRights : FolderState → FolderState → Type 0
 HasRights o n = n ≡ record o { has_rights = true }
@@ -48,7 +48,7 @@ pub record KeepsOld (o n : FolderState) : Type 0 where
   pub old : n.old ≡ o.old
   pub stuck : n.stuck ≡ o.stuck
 
--- and no new one is left, but where it could not be removed
+-- the file of the name is as it was, and no new one is left, unless its removal failed
 pub record Removes (o n : FolderState) : Type 0 where
   pub old : n.old ≡ o.old
   pub removed : (n.beside ≡ None) ⊎ Rose o.stuck n.stuck
@@ -69,13 +69,13 @@ pub record IsReady (o : FolderState) : Type 0 where
   pub has_rights : o.has_rights ≡ true
 
 -- ---- what a replacement does
--- where it was done, the name has the new bytes, and else what it had; in either case no new file is left, but where it could not be removed
+-- if it was done, the name has the new bytes, else what it had; a new file is only left if its removal failed
 pub record Replaces (new : Option (List ℕ)) (result : Result Bool StoreError) (o n : FolderState) : Type 0 where
   pub placed : result ≡ Ok true → n.old ≡ new
   pub kept : result ≢ Ok true → n.old ≡ o.old
   pub removed : (n.beside ≡ None) ⊎ Rose o.stuck n.stuck
 
--- the same by what is in the new file
+-- a replacement by the bytes in the new file
 abbrev pub Places : Result Bool StoreError → FolderState → FolderState → Type 0
 Places result o n = Replaces o.beside result o n
 
@@ -85,8 +85,8 @@ pub record IsWritten (bytes : List ℕ) (o n : FolderState) : Type 0 where
   pub ready : IsReady n
   pub kept : KeepsOld o n
 
--- what a store answers where no new file could be made: none is made where the machine lets no file be made beside another; want of
--- memory is that, and each other kind a fault
+-- a store's answer if no new file could be made: false if the machine lets no file be made beside another, Memory for
+-- want of memory, and Failed for each other kind
 abbrev pub unmade_of : ErrorKind → Result Bool StoreError
 unmade_of PermissionDenied = Ok false
 unmade_of InvalidFilename = Ok false

@@ -17,7 +17,8 @@ fail_code = code_by (ℕ × Option ℕ) (coded× coded_ℕ (coded_option coded_�
 
 abbrev pub shelf_code : Coded ShelfState
 shelf_code =
-    code_by (Files × (List FailCall × (ℕ × ℕ))) (coded× (map.code (coded_list coded_ℕ) (coded_list coded_ℕ)) (coded× (coded_list fail_code) (coded× coded_ℕ coded_ℕ)))
+    code_by (Files × (List FailCall × (ℕ × ℕ)))
+    (coded× (map.code (coded_list coded_ℕ) (coded_list coded_ℕ)) (coded× (coded_list fail_code) (coded× coded_ℕ coded_ℕ)))
     (λ s. (s.files, (s.failing, (s.calls, s.faults)))) (λ p. record { files = p.0; failing = p.1.0; calls = p.1.1.0; faults = p.1.1.1 }) (λ _. refl)
 
 -- the first plan for a call
@@ -29,8 +30,8 @@ abbrev pub files_left : Option ℕ → Files → List ℕ → List ℕ → Files
 files_left None old name bytes = old
 files_left (Some keep) old name bytes = map.insert old name (take keep bytes)
 
--- the bytes written, the calls that are to fail, how many bytes a write takes at most, where that is bounded, the calls made so far, and
--- the faults so far
+-- the bytes written, the calls that are to fail, how many bytes a write takes at most, if that is bounded, the calls
+-- made so far, and the faults so far
 pub record SinkState : Type 0 where
   pub bytes : List ℕ
   pub failing : List ℕ
@@ -39,6 +40,6 @@ pub record SinkState : Type 0 where
   pub faults : ℕ
 
 -- how many bytes a write takes of a piece of this length
-abbrev pub taken : Option ℕ → ℕ → ℕ
-taken None size = size
-taken (Some most) size = min size most
+abbrev pub bytes_taken : Option ℕ → ℕ → ℕ
+bytes_taken None size = size
+bytes_taken (Some most) size = min size most

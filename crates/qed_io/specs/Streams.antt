@@ -5,7 +5,7 @@ use Rattle.std.specs.declared.io.Error.{Error}
 use Rattle.std.specs.declared.io.ErrorKind.{ErrorKind}
 use Rattle.std.specs.declared.io.ErrorKind.TheVariants.{OutOfMemory}
 use Rattle.std.specs.Io.KnownBytes.{Appends}
-use Rattle.qed_io.specs.Sink.{AppendsPart}
+use Rattle.qed_io.specs.Sink.{AppendsPrefix}
 use Rattle.qed_io.specs.declared.shelf.LoadError.{LoadError}
 use Rattle.qed_io.specs.declared.shelf.LoadError.TheVariants as load
 
@@ -19,17 +19,17 @@ abbrev pub within_limit : {A : Type 0} → ℕ → Result (Vec ℕ A) Error → 
 within_limit limit (Ok bytes) = if nat_lt limit (length bytes.items) then Err load.TooLong else Ok bytes.items
 within_limit limit (Err error) = Err (load_error_of (error_kind error))
 
--- a load through a reader that was opened gave all the bytes that it held, or they are more than the limit; held says which bytes a
--- reader has left, where that is told
+-- a load through a reader that was opened gave all the bytes that it held, or they are more than the limit; held says
+-- which bytes a reader has left, if that is known
 pub record LoadsHeld {R : Type 0} (held : R → Option (List ℕ)) (opened : Result R Error) (limit : ℕ) (result : Result (List ℕ) LoadError) : Type 0 where
   pub bytes : IfOk result (λ bytes. IsOkAnd opened (λ file. IfSome (held file) (λ all. bytes ≡ all)))
   pub within : IfOk result (λ bytes. length bytes ≤ limit)
   pub too_long : IsErrOf result load.TooLong → IsOkAnd opened (λ file. IfSome (held file) (λ all. limit < length all))
 
--- a store through a sink that was opened appended all the bytes; held says which bytes a sink has, where that is told
+-- a store through an opened sink appended all the bytes; held says which bytes a sink has, if that is known
 abbrev pub StoresHeld : {W : Type 0} → (W → Option (List ℕ)) → Result W Error → Result W Error → List ℕ → Type 0
 StoresHeld held old new bytes = IsOkAnd old (λ before. IsOkAnd new (λ now. Appends (held before) (held now) bytes))
 
 -- a store through a sink, if it was opened, appended a prefix of the bytes, and not all of them
 abbrev pub StoresHeldPart : {W : Type 0} → (W → Option (List ℕ)) → Result W Error → Result W Error → List ℕ → Type 0
-StoresHeldPart held old new bytes = IfOk old (λ before. IsOkAnd new (λ now. AppendsPart (held before) (held now) bytes))
+StoresHeldPart held old new bytes = IfOk old (λ before. IsOkAnd new (λ now. AppendsPrefix (held before) (held now) bytes))

@@ -1,6 +1,6 @@
 //! The machine's files.
 ghost use Rattle.std.specs.Prelude.{◌≡◌, ◌≢◌, ◌≤◌, ℕ, None, IsErrOf};
-ghost use Rattle.qed_io.specs.Counts.{CountsFaults, counted};
+ghost use Rattle.qed_io.specs.Counts.{CountsFaults, counted_up};
 ghost use Rattle.qed_io.specs.Shelf.{Loads, Stores};
 
 use crate::new_file::NewFile;
@@ -17,12 +17,12 @@ use std::rt::Files;
 /// The files of the machine, by their paths.
 ///
 /// A store writes a new file beside the old one and renames it over, so that a disk that is full, or a cut, leaves the
-/// old bytes. A path that is a link, a pipe or a device is written as it is, and so is a file where the machine lets no
+/// old bytes. A path that is a link, a pipe or a device is written as it is, and so is a file if the machine lets no
 /// new one take its place. A cut may leave a file whose name ends in `.new`.
 ///
-/// Contracts see it as its count of faults, which serves as all of a shelf's counts, and which a call raises exactly
-/// where it answers `Failed`. They are told nothing of what the files hold: that a path that is opened is the file of
-/// that name is trusted. A load of a path where no file is fails.
+/// Contracts see its count of faults, which serves as all of a shelf's counts, and which a call raises exactly if it
+/// answers `Failed`. They do not see what the files hold: that a path that is opened is the file of that name is
+/// trusted. A load of a path without a file fails.
 #[derive(Drop)]
 pub struct DirShelf<R: Files + Drop> {
     machine: R,
@@ -65,7 +65,7 @@ impl<R: Files + Drop> DirShelf<R> {
 
     // Replaces the file of the name, or leaves all as it was, where the machine does not let it.
     fn replace(&mut self, name: &str, bytes: &[u8]) -> Result<bool, StoreError>
-        ensures failed { IsErrOf result StoreError.Failed → self.new ≡ counted self.old }
+        ensures failed { IsErrOf result StoreError.Failed → self.new ≡ counted_up self.old }
         ensures steady { result ≢ Err StoreError.Failed → self.new ≡ self.old }
         ensures not_fell { self.old ≤ self.new }
     {
@@ -87,7 +87,7 @@ impl<R: Files + Drop> Shelf for DirShelf<R> {
         ensures loads { Loads None (λ _. self.old) (λ _. self.new) name.now limit result }
         ensures stores { CountsFaults (IsErrOf result LoadError.Failed) (λ _. self.old) (λ _. self.new) }
 
-        ensures failed { IsErrOf result LoadError.Failed → self.new ≡ counted self.old }
+        ensures failed { IsErrOf result LoadError.Failed → self.new ≡ counted_up self.old }
         ensures steady { result ≢ Err LoadError.Failed → self.new ≡ self.old }
     {
         let opened = fs::open(&self.machine, name);
@@ -98,7 +98,7 @@ impl<R: Files + Drop> Shelf for DirShelf<R> {
         ensures stores { Stores None None (λ _. self.old) (λ _. self.new) name.now bytes.now result }
         ensures loads { CountsFaults (IsErrOf result StoreError.Failed) (λ _. self.old) (λ _. self.new) }
 
-        ensures failed { IsErrOf result StoreError.Failed → self.new ≡ counted self.old }
+        ensures failed { IsErrOf result StoreError.Failed → self.new ≡ counted_up self.old }
         ensures steady { result ≢ Err StoreError.Failed → self.new ≡ self.old }
     {
         if is_replaceable(&self.machine, name) {

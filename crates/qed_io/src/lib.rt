@@ -1,5 +1,5 @@
-//! Where files are kept and where text is written: two traits that say what a call did and when it may fail, each with
-//! an implementation for the machine, one in memory that fails as it is told, and one in memory that never fails.
+//! Files and streams, by two traits that say what a call did and when it may fail. Each has an implementation for the
+//! machine, one in memory that fails as planned, and one in memory that never fails.
 #![tactic(auto)]
 
 mod dir_shelf;

@@ -1,8 +1,9 @@
-//! A shelf in memory whose calls fail where they are told to.
-ghost use Rattle.std.specs.Prelude.{◌≡◌, ◌≢◌, ◌↔◌, ◌⊎◌, List, ℕ, [], ◌∷◌, ◌++◌, Some, None, IsSome, IsSomeAnd, IfSome, IsErr, OnOk, OnErr, IsErrOf, find, take, ◌==◌};
+//! A shelf in memory whose calls fail as planned.
+ghost use Rattle.std.specs.Prelude.{◌≡◌, ◌≢◌, ◌↔◌, ◌⊎◌, List, ℕ, [], ◌∷◌, ◌++◌, Some, None, IsSome, IsSomeAnd, IfSome, IsErr, OnOk, OnErr, IsErrOf, find};
+ghost use Rattle.std.specs.Prelude.{take, ◌==◌};
 ghost use Rattle.std.specs.Option.{option_map};
 ghost use Rattle.std.specs.FinMap as map;
-ghost use Rattle.qed_io.specs.Counts.{CountsFaults, counted};
+ghost use Rattle.qed_io.specs.Counts.{CountsFaults, counted_up};
 ghost use Rattle.qed_io.specs.Shelf.{Loads, Stores};
 ghost use Rattle.qed_io.specs.Memory.{planned, files_left};
 
@@ -77,7 +78,7 @@ impl MemoryShelf {
         }
     }
 
-    /// Sets a file. This is no numbered call, and only memory can fail it.
+    /// Sets a file. This call has no number, and only memory can fail it.
     pub fn put_file(&mut self, name: &str, bytes: &[u8]) -> Result<(), AllocError>
         ensures ok { OnOk result (self.new ≡ record self.old { files = map.insert self.old.files name.now bytes.now }) }
         ensures err { OnErr result (self.new ≡ self.old) }
@@ -115,12 +116,12 @@ impl Shelf for MemoryShelf {
         ensures files { Some self.new.files ≡ Some self.old.files }
         ensures stores { CountsFaults (IsErrOf result LoadError.Failed) (λ _. self.old.faults) (λ _. self.new.faults) }
 
-        // It fails exactly where the call was planned to, or there is no such file.
+        // It fails exactly if the call was planned to, or the file does not exist.
         ensures fails { IsErrOf result LoadError.Failed ↔ (IsSome (planned self.old.failing self.old.calls) ⊎ (map.get self.old.files name.now ≡ None)) }
-        ensures counted { IsErrOf result LoadError.Failed → self.new.faults ≡ counted self.old.faults }
+        ensures counted { IsErrOf result LoadError.Failed → self.new.faults ≡ counted_up self.old.faults }
         ensures uncounted { result ≢ Err LoadError.Failed → self.new.faults ≡ self.old.faults }
 
-        ensures calls { self.new.calls ≡ counted self.old.calls }
+        ensures calls { self.new.calls ≡ counted_up self.old.calls }
         ensures plans { self.new.failing ≡ self.old.failing }
     {
         let call = self.calls;
@@ -147,15 +148,16 @@ impl Shelf for MemoryShelf {
         ensures stores { Stores (Some self.old.files) (Some self.new.files) (λ _. self.old.faults) (λ _. self.new.faults) name.now bytes.now result }
         ensures loads { CountsFaults (IsErrOf result StoreError.Failed) (λ _. self.old.faults) (λ _. self.new.faults) }
 
-        // It fails only where the call was planned to, and leaves what the plan says. Such a call is never Ok, and where
-        // the plan keeps nothing it takes no memory.
-        ensures fails { IsErrOf result StoreError.Failed → IsSomeAnd (planned self.old.failing self.old.calls) (λ plan. self.new.files ≡ files_left plan.keep self.old.files name.now bytes.now) }
+        // It fails only if the call was planned to, and leaves what the plan says. Such a call is never Ok, and if the
+        // plan keeps nothing it takes no memory.
+        ensures fails { IsErrOf result StoreError.Failed → IsSomeAnd (planned self.old.failing self.old.calls) (λ plan.
+            self.new.files ≡ files_left plan.keep self.old.files name.now bytes.now) }
         ensures planned { IsSome (planned self.old.failing self.old.calls) → IsErr result }
         ensures kept_nothing { IfSome (planned self.old.failing self.old.calls) (λ plan. plan.keep ≡ None → result ≡ Err StoreError.Failed) }
-        ensures counted { IsErrOf result StoreError.Failed → self.new.faults ≡ counted self.old.faults }
+        ensures counted { IsErrOf result StoreError.Failed → self.new.faults ≡ counted_up self.old.faults }
         ensures uncounted { result ≢ Err StoreError.Failed → self.new.faults ≡ self.old.faults }
 
-        ensures calls { self.new.calls ≡ counted self.old.calls }
+        ensures calls { self.new.calls ≡ counted_up self.old.calls }
         ensures plans { self.new.failing ≡ self.old.failing }
     {
         let call = self.calls;

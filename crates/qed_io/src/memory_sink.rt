@@ -1,7 +1,7 @@
-//! A sink in memory whose calls fail where they are told to.
+//! A sink in memory whose calls fail as planned.
 ghost use Rattle.std.specs.Prelude.{◌≡◌, ◌<◌, ◌↔◌, ℕ, [], ◌∷◌, ◌++◌, Some, None, OnOk, OnErr, IfOk, IsErrOf, length, take, Contains};
-ghost use Rattle.qed_io.specs.Counts.{counted};
-ghost use Rattle.qed_io.specs.Memory.{taken};
+ghost use Rattle.qed_io.specs.Counts.{counted_up};
+ghost use Rattle.qed_io.specs.Memory.{bytes_taken};
 ghost use Rattle.qed_io.specs.Sink.{Writes};
 
 use crate::memory_shelf::first_bytes;
@@ -70,7 +70,7 @@ impl MemorySink {
 
 // What a write takes of a piece.
 fn front(piece: &[u8], most: Option<u64>) -> &[u8]
-    ensures { result.now ≡ take (taken most (length piece.now)) piece.now }
+    ensures { result.now ≡ take (bytes_taken most (length piece.now)) piece.now }
 {
     match most {
         Some(most) => first_bytes(piece, most),
@@ -90,13 +90,13 @@ impl Sink for MemorySink {
 
         // It fails exactly where the call was planned to, and else takes the whole piece, or as much as it may.
         ensures fails { IsErrOf result WriteError.Failed ↔ Contains self.old.failing self.old.calls }
-        ensures taken { IfOk result (λ n. n ≡ taken self.old.most (length piece.now)) }
+        ensures taken { IfOk result (λ n. n ≡ bytes_taken self.old.most (length piece.now)) }
 
         // Either fault counts one. Every other call counts none, by what a write of any sink does.
-        ensures counted { IsErrOf result WriteError.Failed → self.new.faults ≡ counted self.old.faults }
-        ensures stuck { IfOk result (λ n. n ≡ 0 → 0 < length piece.now → self.new.faults ≡ counted self.old.faults) }
+        ensures counted { IsErrOf result WriteError.Failed → self.new.faults ≡ counted_up self.old.faults }
+        ensures stuck { IfOk result (λ n. n ≡ 0 → 0 < length piece.now → self.new.faults ≡ counted_up self.old.faults) }
 
-        ensures calls { self.new.calls ≡ counted self.old.calls }
+        ensures calls { self.new.calls ≡ counted_up self.old.calls }
         ensures plans { self.new.failing ≡ self.old.failing }
         ensures bound { self.new.most ≡ self.old.most }
     {

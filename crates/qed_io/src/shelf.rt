@@ -53,10 +53,9 @@ impl From<AllocError> for StoreError {
 
 /// Files by their names. A name is any text, and a file is a list of bytes.
 ///
-/// Counts of faults say when a call may fail. They never fall, a call that answers `Failed` raises its own name's
-/// count for that kind of call, unless the count stands at 2^64 - 1 already, and a call that does not answer `Failed`
-/// leaves all of them as they were. So a fault at one name is no reason to fail at another, and want of memory is no
-/// name for a fault.
+/// Counts of faults say when a call may fail. They never fall. A call that answers `Failed` raises its own name's count
+/// for that kind of call, unless the count stands at 2^64 - 1 already. A call that does not answer `Failed` leaves all
+/// counts. So a fault at one name does not allow one at another, and want of memory is not called a fault.
 pub trait Shelf {
     /// The files, where the shelf tells them. One that tells them once tells them after each call.
     ghost files: { Self → Option Files };
@@ -67,11 +66,11 @@ pub trait Shelf {
     /// How often a store of the name has failed.
     ghost store_faults: { Self → List ℕ → ℕ };
 
-    /// The file's bytes, at most `limit` of them, or none where the shelf tells that there is no such file. No
-    /// file changes.
+    /// The file's bytes, at most `limit` of them, or none if the shelf reports that the file does not exist. No file
+    /// changes.
     ///
-    /// Errors: `TooLong` only where the file has more than `limit` bytes, `Failed` only with a fault of this load,
-    /// and `Memory`.
+    /// Errors: `TooLong` only if the file has more than `limit` bytes, `Failed` only with a fault of this load, and
+    /// `Memory`.
     fn load(&mut self, alloc: Global, name: &str, limit: u64) -> Result<Bytes, LoadError>
         ensures loads { Loads (files self.old) (load_faults self.old) (load_faults self.new) name.now limit result }
         ensures files { files self.new ≡ files self.old }

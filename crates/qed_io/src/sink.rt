@@ -3,7 +3,7 @@ ghost use Rattle.std.specs.Prelude.{◌≡◌, ◌≢◌, ◌≤◌, List, ℕ, 
 ghost use Rattle.std.specs.Io.KnownBytes.{Appends};
 ghost use Rattle.qed_io.specs.declared.sink.WriteError.TheVariants.{Memory};
 ghost use Rattle.qed_io.specs.Counts.{Rose};
-ghost use Rattle.qed_io.specs.Sink.{Writes, RoseByAtMost, AppendsPart};
+ghost use Rattle.qed_io.specs.Sink.{Writes, RoseByAtMost, AppendsPrefix};
 
 use std::alloc::AllocError;
 use thiserror::Error;
@@ -55,7 +55,7 @@ pub trait Sink {
 /// After either a prefix of the bytes was appended, and not all of them.
 pub fn put_all<K: Sink>(out: &mut K, bytes: &[u8]) -> Result<(), WriteError>
     ensures all { OnOk result (Appends (K.written out.old) (K.written out.new) bytes.now) }
-    ensures part { OnErr result (AppendsPart (K.written out.old) (K.written out.new) bytes.now) }
+    ensures part { OnErr result (AppendsPrefix (K.written out.old) (K.written out.new) bytes.now) }
     ensures failed { IsErrOf result WriteError.Failed → Rose (K.faults out.old) (K.faults out.new) }
     ensures steady { result ≢ Err WriteError.Failed → K.faults out.new ≡ K.faults out.old }
     ensures none_fell { K.faults out.old ≤ K.faults out.new }

@@ -1,6 +1,6 @@
 //! Standard output, and any other writer of std as a sink.
 ghost use Rattle.std.specs.Prelude.{◌≡◌, ◌≢◌, IsErrOf};
-ghost use Rattle.qed_io.specs.Counts.{counted};
+ghost use Rattle.qed_io.specs.Counts.{counted_up};
 ghost use Rattle.qed_io.specs.Sink.{Writes};
 
 use crate::streams::write_once;
@@ -19,7 +19,7 @@ pub struct WriterSink<W: Write + Drop> {
     pub last_error: Option<io::Error>,
 }
 
-/// Standard output. Contracts are told nothing of what was written: that the bytes of a write come out is trusted.
+/// Standard output. Contracts do not see what was written: that the bytes of a write come out is trusted.
 pub type StdSink<'a, P> = WriterSink<Printer<'a, P>>;
 
 impl<'a, P: Print> WriterSink<Printer<'a, P>> {
@@ -55,7 +55,7 @@ impl<W: Write + Drop> Sink for WriterSink<W> {
     fn write(&mut self, piece: &[u8]) -> Result<usize, WriteError>
         ensures writes { Writes (W.contents self.old.writer) (W.contents self.new.writer) self.old.faults self.new.faults 0 0 piece.now result }
         // An error is a fault, and the only one.
-        ensures failed { IsErrOf result WriteError.Failed → self.new.faults ≡ counted self.old.faults }
+        ensures failed { IsErrOf result WriteError.Failed → self.new.faults ≡ counted_up self.old.faults }
         ensures memory { result ≢ Err WriteError.Memory }
     {
         match write_once(&mut self.writer, piece) {

@@ -3,7 +3,7 @@
 ghost use Rattle.std.specs.Prelude.{◌≡◌, ◌≢◌, ◌≤◌, IfOk, IfSome, OnOk, OnErr, IfErr, IsErrOf, length, take};
 ghost use Rattle.std.specs.IoError.{error_kind};
 ghost use Rattle.std.specs.Io.KnownBytes.{Appends, Keeps};
-ghost use Rattle.qed_io.specs.Counts.{counted};
+ghost use Rattle.qed_io.specs.Counts.{counted_up};
 ghost use Rattle.qed_io.specs.Streams.{load_error_of, within_limit, LoadsHeld, StoresHeld, StoresHeldPart};
 
 use crate::{LoadError, Sink, StoreError, put_all};
@@ -12,7 +12,7 @@ use std::alloc::Global;
 use std::io;
 use std::io::{Error, ErrorKind, Read, Write};
 
-/// What a load answers for an error of the machine, which is kept: `Memory` exactly for want of memory, and else `Failed`.
+/// What a load answers for an error of the machine, which is kept: `Memory` exactly for want of memory, else `Failed`.
 fn load_error(error: Error, last_error: &mut Option<Error>) -> LoadError
     ensures { result ≡ load_error_of (error_kind error) }
 {
@@ -23,7 +23,7 @@ fn load_error(error: Error, last_error: &mut Option<Error>) -> LoadError
     }
 }
 
-/// The first bytes that a reader has left, at most so many.
+/// The first bytes that a reader has left, at most `most`.
 fn read_start<R: Read + Drop>(reader: R, alloc: Global, most: u64) -> io::Result<Vec<u8>>
     ensures { IfOk result (λ bytes. IfSome (R.remaining reader) (λ held. bytes.items ≡ take most held)) }
 {
@@ -51,10 +51,10 @@ fn within(
     }
 }
 
-/// Loads a file that was opened, and counts a fault exactly where it answers `Failed`. The machine's error is kept. It reads one byte past
-/// the limit, which tells a longer file, and no more of it.
+/// Loads a file that was opened, and counts a fault exactly if it answers `Failed`. The machine's error is kept. It
+/// reads one byte past the limit, which shows a longer file, and no more of it.
 ///
-/// Errors: `TooLong` only where the file has more bytes than the limit, and `Failed` or `Memory` as the machine says.
+/// Errors: `TooLong` only if the file has more bytes than the limit, and `Failed` or `Memory` as the machine says.
 pub(crate) fn load_opened<R: Read + Drop>(
     opened: io::Result<R>,
     alloc: Global,
@@ -64,7 +64,7 @@ pub(crate) fn load_opened<R: Read + Drop>(
 ) -> Result<Bytes, LoadError>
     ensures held { LoadsHeld R.remaining opened limit result }
     ensures unopened { IfErr opened (λ error. result ≡ Err (load_error_of (error_kind error))) }
-    ensures failed { IsErrOf result LoadError.Failed → faults.new ≡ counted faults.old }
+    ensures failed { IsErrOf result LoadError.Failed → faults.new ≡ counted_up faults.old }
     ensures steady { result ≢ Err LoadError.Failed → faults.new ≡ faults.old }
     ensures not_fell { faults.old ≤ faults.new }
 {
@@ -113,7 +113,7 @@ pub(crate) fn store_opened<K: Sink>(
 ) -> Result<(), StoreError>
     ensures stored { OnOk result (StoresHeld K.written opened.old opened.new bytes.now) }
     ensures part { OnErr result (StoresHeldPart K.written opened.old opened.new bytes.now) }
-    ensures failed { OnErr result ((result ≡ Err StoreError.Failed) × (faults.new ≡ counted faults.old)) }
+    ensures failed { OnErr result ((result ≡ Err StoreError.Failed) × (faults.new ≡ counted_up faults.old)) }
     ensures steady { OnOk result (faults.new ≡ faults.old) }
     ensures not_fell { faults.old ≤ faults.new }
 {

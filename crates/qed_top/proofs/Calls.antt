@@ -3,7 +3,7 @@ use Rattle.std.proofs.Common.{◌≡◌, ℕ, List, Option, None, Some, IfSome, 
 use Rattle.std.specs.Prelude.{IsSomeAnd}
 use Rattle.qed_io.specs.declared.shelf.Shelf.{Ghosts}
 use Rattle.machine.specs.declared.limits.Limit as limits
-use Rattle.qed_top.specs.Answer.{CallsFor, read_fault, too_long, within, PrintsOnly, IsSteady, SteadyOrReadFault, StoreRose, limit_of}
+use Rattle.qed_top.specs.Answer.{CallsFor, read_fault, too_long, within, PrintsOnly, IsFaultless, SteadyOrReadFault, StoreRose, limit_of}
 use Rattle.qed_top.specs.Loads.{Decided}
 use Rattle.qed_top.specs.Loads as decide
 use Rattle.qed_top.specs.Refused.{Makes, MakesDecides, ReadOn, ReadOnDecides, refused, made, not_made, is_made, not_read, read_on, is_not_read, is_read, error_status, refusal_status, ElfFile, Options, IsTransformable}
@@ -106,14 +106,14 @@ made_settled bytes o Uses Then answer t can h (made m) (is_made f u) = h m u
 -- ---- counts of faults
 -- counts that changed in neither of two parts of a call
 module _ {S : Type 0} (shelf : Ghosts S) (old middle new : S) where
-  pub steady_both : IsSteady shelf old middle → IsSteady shelf middle new → IsSteady shelf old new
+  pub steady_both : IsFaultless shelf old middle → IsFaultless shelf middle new → IsFaultless shelf old new
   steady_both a b = record { load = λ name. b.load name ∙ a.load name; store = λ name. b.store name ∙ a.store name }
 
   -- the counts are unchanged, unless one part reports a read fault
-  pub steady_since : (answer : Answer) → IsSteady shelf old middle → SteadyOrReadFault (IsSteady shelf middle new) answer → SteadyOrReadFault (IsSteady shelf old new) answer
+  pub steady_since : (answer : Answer) → IsFaultless shelf old middle → SteadyOrReadFault (IsFaultless shelf middle new) answer → SteadyOrReadFault (IsFaultless shelf old new) answer
   steady_since answer a (inl b) = inl (steady_both a b)
   steady_since answer a (inr plain) = inr plain
 
-  pub steady_then : (answer : Answer) → SteadyOrReadFault (IsSteady shelf old middle) answer → IsSteady shelf middle new → SteadyOrReadFault (IsSteady shelf old new) answer
+  pub steady_then : (answer : Answer) → SteadyOrReadFault (IsFaultless shelf old middle) answer → IsFaultless shelf middle new → SteadyOrReadFault (IsFaultless shelf old new) answer
   steady_then answer (inl a) b = inl (steady_both a b)
   steady_then answer (inr plain) b = inr plain

@@ -3,15 +3,15 @@ use Rattle.std.proofs.Common.{◌≡◌, ◌≢◌, ℕ, ◌-◌, Bool, true, fa
 use Rattle.std.specs.Prelude.{MatchOption, MatchResult, Result, Ok, Err, IfOk, IsSome, IsSomeAnd, slice_index, All}
 use Rattle.std.proofs.lemmas.List.Elements.{All-head, recursion_from_All}
 use Rattle.std.specs.Io.KnownBytes.{Appends}
-use Rattle.qed_io.specs.Sink.{AppendsPart}
+use Rattle.qed_io.specs.Sink.{AppendsPrefix}
 use Rattle.qed_io.specs.declared.shelf.Shelf as shelves
 use Rattle.qed_io.specs.declared.sink.Sink as sinks
 use Rattle.machine.specs.declared.limits.Limit.TheVariants as limit
 use Rattle.qed_words.specs.declared.orders.Order.TheVariants as order
 use Rattle.qed_model.specs.declared.role.Role.{Role}
-use Rattle.listing.specs.Roles.{role_at, word_text}
+use Rattle.listing.specs.Roles.{role_at, word_line}
 use Rattle.report.specs.Admission.{no_word_line}
-use Rattle.qed_top.specs.Answer.{PrintsOnly, FilesAfter, FilesInPart, StoreRose, IsSteady, LoadRose, SteadyOrReadFault, limit_of, RoseAt, NoneFell}
+use Rattle.qed_top.specs.Answer.{PrintsOnly, FilesAfter, FilesInPart, StoreRose, IsFaultless, LoadRose, SteadyOrReadFault, limit_of, RoseAt, NoneFell}
 use Rattle.qed_top.specs.Refused.{ReadOn, not_read, read_on, admit_status, error_status, refusal_status, ElfFile}
 use Rattle.qed_top.specs.Makes.{IsMade, Delivers, TellsPlan}
 use Rattle.qed_top.specs.Run.{InMemory, InMemoryDecides, outcome_status, run_of, HasRun, FileRuns, Watches, unread_test, no_test, watched, RunsAs, default_options, Change, Outcome}
@@ -25,8 +25,8 @@ use Rattle.qed_top.specs.Gen.{Gens, GenDecides, test_bytes}
 use Rattle.qed_top.specs.Gen as gens
 use Rattle.transform.specs.declared.error.TransformError.TheVariants as transform
 use Rattle.transform.specs.declared.explained.Explained.{Explained}
-use Rattle.qed_top.specs.Loads.{Decided, Loads, OverLoads, Files, file_bytes}
-use Rattle.qed_top.specs.Orders.{AnswersOver, OrderCallsFor, WordsCallFor, listed, source_limit, source_name, source_names, stored_name, Order, Transform, Plan, Explain, Run, Campaign, Gen, Asm, Harts, Tell, asked, Reason}
+use Rattle.qed_top.specs.Loads.{Decided, LoadedFiles, OverLoads, Files, file_bytes}
+use Rattle.qed_top.specs.Orders.{AnswersOver, OrderCallsFor, WordsCallFor, listed_rest, source_limit, source_name, source_names, stored_name, Order, Transform, Plan, Explain, Run, Campaign, Gen, Asm, Harts, Tell, asked, Reason}
 use Rattle.qed_top.specs.Ends.{Call, call_on, load_rose, store_rose, sink_rose, KeepsShelf, IsAnswered, EndsOver, Ends, ReadDecides, RunDecides, ran_status, DecidesOver, OrderDecides, Decides, NoFault, IsComplete}
 use Rattle.qed_top.specs.Ends as decide
 use Rattle.qed_top.specs.declared.answer.Answer.{Answer}
@@ -61,19 +61,19 @@ source_later order (Some name) files rose later h answer m =
     calls_more (source_limit order) (file_bytes files name) (rose name) (later name) (AnswersOver order (file_bytes files name) answer) (AnswersOver order (file_bytes files name) answer) answer (h name) (λ a. a) m
 
 order_later :
-    (order : Order) (loads : Loads) (rose later : List ℕ → Type 0) → ((name : List ℕ) → rose name → later name) → (answer : Answer)
+    (order : Order) (loads : LoadedFiles) (rose later : List ℕ → Type 0) → ((name : List ℕ) → rose name → later name) → (answer : Answer)
     → OrderCallsFor order loads rose answer → OrderCallsFor order loads later answer
 order_later (Harts names turns steps) loads rose later h answer m = files_later names [] turns steps loads rose later h answer m
 order_later order loads rose later h answer m = source_later order (source_name order) (loads 0) rose later h answer m
 
 words_later :
-    (ask : Result Order Reason) (loads : Loads) (rose later : List ℕ → Type 0) → ((name : List ℕ) → rose name → later name) → (answer : Answer)
+    (ask : Result Order Reason) (loads : LoadedFiles) (rose later : List ℕ → Type 0) → ((name : List ℕ) → rose name → later name) → (answer : Answer)
     → WordsBy ask loads rose answer → WordsBy ask loads later answer
 words_later (Ok order) loads rose later h answer m = order_later order loads rose later h answer m
 words_later (Err reason) loads rose later h answer m = m
 
 pub meant_later :
-    (words : List (List ℕ)) (loads : Loads) (rose later : List ℕ → Type 0) → ((name : List ℕ) → rose name → later name) → (answer : Answer)
+    (words : List (List ℕ)) (loads : LoadedFiles) (rose later : List ℕ → Type 0) → ((name : List ℕ) → rose name → later name) → (answer : Answer)
     → WordsCallFor words loads rose answer → WordsCallFor words loads later answer
 meant_later words loads rose later h answer m = words_later (asked words) loads rose later h answer m
 
@@ -108,11 +108,11 @@ trapped_printed (Some pc) = tt
 abbrev TellsNumber : Explained → ℕ → Answer → Option ℕ → Type 0
 TellsNumber x a answer number =
     MatchOption number (PrintsOnly Refused (no_word_line a) answer)
-    (λ n. IsSomeAnd (role_at x.roles.items (a - x.base)) (λ role. PrintsOnly Done (word_text role a (slice_index x.words.items n) x.file.symbols) answer))
+    (λ n. IsSomeAnd (role_at x.roles.items (a - x.base)) (λ role. PrintsOnly Done (word_line role a (slice_index x.words.items n) x.file.symbols) answer))
 
 -- the answer about a word has its status, and stores nothing
 role_told :
-    (x : Explained) (a n : ℕ) (answer : Answer) (r : Option Role) → IsSomeAnd r (λ role. PrintsOnly Done (word_text role a (slice_index x.words.items n) x.file.symbols) answer)
+    (x : Explained) (a n : ℕ) (answer : Answer) (r : Option Role) → IsSomeAnd r (λ role. PrintsOnly Done (word_line role a (slice_index x.words.items n) x.file.symbols) answer)
     → (answer.status ≡ Done) × Tells None answer
 role_told x a n answer None t = absurd t
 role_told x a n answer (Some role) t = (t.status, tells Done None answer tt t)
@@ -148,7 +148,7 @@ source_tells order None files rose answer m = over_tells order [] answer m
 source_tells order (Some name) files rose answer m =
     calls_tells (source_limit order) (file_bytes files name) (rose name) (AnswersOver order (file_bytes files name) answer) (stored_name order) answer (over_tells order (file_bytes files name) answer) m
 
-order_tells : (order : Order) (loads : Loads) (rose : List ℕ → Type 0) (answer : Answer) → OrderCallsFor order loads rose answer → Tells (stored_name order) answer
+order_tells : (order : Order) (loads : LoadedFiles) (rose : List ℕ → Type 0) (answer : Answer) → OrderCallsFor order loads rose answer → Tells (stored_name order) answer
 order_tells (Harts names turns steps) loads rose answer m = files_tells names [] turns steps loads rose answer m
 order_tells order loads rose answer m = source_tells order (source_name order) (loads 0) rose answer m
 
@@ -156,12 +156,12 @@ abbrev stored_by : Result Order Reason → Option (List ℕ)
 stored_by (Ok order) = stored_name order
 stored_by (Err reason) = None
 
-words_tells : (ask : Result Order Reason) (loads : Loads) (rose : List ℕ → Type 0) (answer : Answer) → WordsBy ask loads rose answer → Tells (stored_by ask) answer
+words_tells : (ask : Result Order Reason) (loads : LoadedFiles) (rose : List ℕ → Type 0) (answer : Answer) → WordsBy ask loads rose answer → Tells (stored_by ask) answer
 words_tells (Ok order) loads rose answer m = order_tells order loads rose answer m
 words_tells (Err reason) loads rose answer m = tells Usage None answer tt m
 
 -- a carried-out answer ends the call with its status
-did_ends : (call : Call) (loads : Loads) (status : Status) → Printed status → IsAnswered call loads status → EndsOver call loads status
+did_ends : (call : Call) (loads : LoadedFiles) (status : Status) → Printed status → IsAnswered call loads status → EndsOver call loads status
 did_ends call loads WriteFault p d = absurd p
 did_ends call loads Memory p d = absurd p
 did_ends call loads status p d = d
@@ -252,19 +252,19 @@ source_settled order (Some name) files rose answer t calm m d =
     calls_settled (source_limit order) (file_bytes files name) (rose name) (AnswersOver order (file_bytes files name) answer) (DecidesOver order (file_bytes files name) t) answer t (over_settled order (file_bytes files name) answer t) calm m d
 
 -- what holds of all names holds of the one name
-calm_one : (source : Option (List ℕ)) (rose : List ℕ → Type 0) → All (λ name. rose name → ⊥) (listed source) → IfSome source (λ name. rose name → ⊥)
+calm_one : (source : Option (List ℕ)) (rose : List ℕ → Type 0) → All (λ name. rose name → ⊥) (listed_rest source) → IfSome source (λ name. rose name → ⊥)
 calm_one None rose calm = tt
 calm_one (Some name) rose calm = All-head (λ name. rose name → ⊥) name [] calm
 
 order_settled :
-    (order : Order) (loads : Loads) (rose : List ℕ → Type 0) (answer : Answer) (t : Status) → All (λ name. rose name → ⊥) (source_names order)
+    (order : Order) (loads : LoadedFiles) (rose : List ℕ → Type 0) (answer : Answer) (t : Status) → All (λ name. rose name → ⊥) (source_names order)
     → OrderCallsFor order loads rose answer → OrderDecides order loads t → answer.status ≡ t
 order_settled (Harts names turns steps) loads rose answer t calm m d =
     files_settled names [] turns steps loads rose answer t (recursion_from_All (λ name. rose name → ⊥) names calm) m d
 order_settled order loads rose answer t calm m d = source_settled order (source_name order) (loads 0) rose answer t (calm_one (source_name order) rose calm) m d
 
 words_settled :
-    (ask : Result Order Reason) (loads : Loads) (rose : List ℕ → Type 0) (answer : Answer) (t : Status) → IfOk ask (λ order. All (λ name. rose name → ⊥) (source_names order))
+    (ask : Result Order Reason) (loads : LoadedFiles) (rose : List ℕ → Type 0) (answer : Answer) (t : Status) → IfOk ask (λ order. All (λ name. rose name → ⊥) (source_names order))
     → WordsBy ask loads rose answer → MatchResult ask (λ order. OrderDecides order loads t) (λ reason. t ≡ Usage) → answer.status ≡ t
 words_settled (Ok order) loads rose answer t calm m d = order_settled order loads rose answer t calm m d
 words_settled (Err reason) loads rose answer t calm m d = m.status ∙ sym d
@@ -276,25 +276,25 @@ stores_calm (Ok order) stores calm = calm
 stores_calm (Err reason) stores calm = tt
 
 did_decided :
-    (call : Call) (loads : Loads) (status decided : Status) → NoFault call → IsAnswered call loads status → Decides call.words loads decided
+    (call : Call) (loads : LoadedFiles) (status decided : Status) → NoFault call → IsAnswered call loads status → Decides call.words loads decided
     → (status ≡ decided) ⊎ (status ≡ Memory)
 did_decided call loads status decided calm d e =
     inl (sym d.same_status ∙ words_settled (asked call.words) loads (load_rose call) d.answer decided calm.load d.meant e)
 
-write_decided : (call : Call) (loads : Loads) → NoFault call → EndsOver call loads WriteFault → ⊥
+write_decided : (call : Call) (loads : LoadedFiles) → NoFault call → EndsOver call loads WriteFault → ⊥
 write_decided call loads calm (inl p) = calm.sink p.0
 write_decided call loads calm (inr p) =
     no_store (stored_by (asked call.words)) p.answer.stored (store_rose call)
     (words_tells (asked call.words) loads (load_rose call) p.answer p.meant).named (stores_calm (asked call.words) (store_rose call) calm.store) p.cause
 
 ends_decided :
-    (call : Call) (loads : Loads) (status decided : Status) → NoFault call → EndsOver call loads status → Decides call.words loads decided
+    (call : Call) (loads : LoadedFiles) (status decided : Status) → NoFault call → EndsOver call loads status → Decides call.words loads decided
     → (status ≡ decided) ⊎ (status ≡ Memory)
 ends_decided call loads WriteFault decided calm e d = absurd (write_decided call loads calm e)
 ends_decided call loads Memory decided calm e d = inr refl
 ends_decided call loads status decided calm e d = did_decided call loads status decided calm e d
 
-pub ends_complete : (call : Call) (loads : Loads) (status : Status) → EndsOver call loads status → IsComplete call loads status
+pub ends_complete : (call : Call) (loads : LoadedFiles) (status : Status) → EndsOver call loads status → IsComplete call loads status
 ends_complete call loads status e calm decided d = ends_decided call loads status decided calm e d
 
 -- ---- after an answer was decided and carried out
@@ -317,7 +317,7 @@ module _ {S K : Type 0} (shelf : shelves.Ghosts S) (sink : sinks.Ghosts K) (word
   since None r = r
   since (Some s) r = rose_since (shelf.store_faults start) (shelf.store_faults decided) (shelf.store_faults end) stores s.name r
 
-  ends : (status : Status) → ((loads : Loads) → WordsCallFor words loads (load_rose this) answer → EndsOver this loads status) → Answers this status
+  ends : (status : Status) → ((loads : LoadedFiles) → WordsCallFor words loads (load_rose this) answer → EndsOver this loads status) → Answers this status
   ends status h = answered this status (loads_map this.old (λ f. WordsCallFor words f (load_rose this) answer) (λ f. EndsOver this f status) h later)
 
   after : FilesAfter answer.stored (shelf.files decided) this.new → FilesAfter answer.stored this.old this.new
@@ -328,7 +328,7 @@ module _ {S K : Type 0} (shelf : shelves.Ghosts S) (sink : sinks.Ghosts K) (word
       ends answer.status
       (λ f m. did_ends this f answer.status (words_tells (asked words) f (load_rose this) answer m).printed (record { answer = answer; meant = m; same_status = refl; stored = after stored; printed = text }))
 
-  pub print_ended : FilesAfter answer.stored (shelf.files decided) this.new → AppendsPart this.was this.now answer.text → sink_rose this → Answers this WriteFault
+  pub print_ended : FilesAfter answer.stored (shelf.files decided) this.new → AppendsPrefix this.was this.now answer.text → sink_rose this → Answers this WriteFault
   print_ended stored text rose = ends WriteFault (λ f m. inl (rose, record { answer = answer; meant = m; stored = after stored; printed = text }))
 
   pub store_ended :
@@ -339,8 +339,8 @@ module _ {S K : Type 0} (shelf : shelves.Ghosts S) (sink : sinks.Ghosts K) (word
       ends WriteFault (λ f m. inr (record { answer = answer; meant = m; cause = since answer.stored cause; stored = part; printed = text }))
 
   short :
-      (f : Loads) → WordsCallFor words f (load_rose this) answer → SteadyOrReadFault (KeepsShelf this) answer → this.after.sink ≡ this.before.sink
-      → (IsSome answer.stored × (this.new ≡ shelf.files decided) × (this.now ≡ this.was)) ⊎ (FilesAfter answer.stored (shelf.files decided) this.new × AppendsPart this.was this.now answer.text)
+      (f : LoadedFiles) → WordsCallFor words f (load_rose this) answer → SteadyOrReadFault (KeepsShelf this) answer → this.after.sink ≡ this.before.sink
+      → (IsSome answer.stored × (this.new ≡ shelf.files decided) × (this.now ≡ this.was)) ⊎ (FilesAfter answer.stored (shelf.files decided) this.new × AppendsPrefix this.was this.now answer.text)
       → EndsOver this f Memory
   short f m steady calm (inl none) = inl (record { stored = none.1 ∙ same; printed = none.2; shelf = steady_store (KeepsShelf this) answer steady none.0; sink = calm })
   short f m steady calm (inr part) = inr (record {
@@ -350,15 +350,15 @@ module _ {S K : Type 0} (shelf : shelves.Ghosts S) (sink : sinks.Ghosts K) (word
   })
 
   pub memory_ended :
-      SteadyOrReadFault (IsSteady shelf start decided) answer → IsSteady shelf decided end → this.after.sink ≡ this.before.sink
-      → (IsSome answer.stored × (this.new ≡ shelf.files decided) × (this.now ≡ this.was)) ⊎ (FilesAfter answer.stored (shelf.files decided) this.new × AppendsPart this.was this.now answer.text)
+      SteadyOrReadFault (IsFaultless shelf start decided) answer → IsFaultless shelf decided end → this.after.sink ≡ this.before.sink
+      → (IsSome answer.stored × (this.new ≡ shelf.files decided) × (this.now ≡ this.was)) ⊎ (FilesAfter answer.stored (shelf.files decided) this.new × AppendsPrefix this.was this.now answer.text)
       → Answers this Memory
   memory_ended before carried calm part = ends Memory (λ f m. short f m (steady_then shelf start decided end answer before carried) calm part)
 
 -- no answer was decided
 pub soon_ended :
     {S K : Type 0} (shelf : shelves.Ghosts S) (sink : sinks.Ghosts K) (words : List (List ℕ)) (start decided : S) (first : K) → shelf.files decided ≡ shelf.files start
-    → IsSteady shelf start decided → Answers (call_on shelf sink words start decided first first) Memory
+    → IsFaultless shelf start decided → Answers (call_on shelf sink words start decided first first) Memory
 soon_ended shelf sink words start decided first same steady =
     let call = call_on shelf sink words start decided first first in
     answered call Memory (always_loads call.old (λ f. EndsOver call f Memory) (λ f. inl (record { stored = same; printed = refl; shelf = steady; sink = refl })))

@@ -7,7 +7,7 @@ use Rattle.tests.specs.Options.{default_options}
 use Rattle.tests.specs.Elf.FileRead.{file_read}
 use Rattle.machine.specs.Loading.{loaded_file}
 use Rattle.machine.specs.Program.{start, zeros}
-use Rattle.machine.specs.Progress.{Progress, begun, progress}
+use Rattle.machine.specs.Progress.{Progress, first_state, progress}
 use Rattle.tests.proofs.Lemmas.{one_file}
 use Rattle.test_gen.specs.Ends.{HasEnded, test_steps}
 use Rattle.test_gen.proofs.Counted.{own_ended, output_ended}
@@ -61,5 +61,5 @@ module _ (seed size : ℕ) (some : 1 ≤ size) (most : size ≤ 60000) where
       → IsRunOf output woven → woven.state.outcome ≡ Ended
   woven_run_ended output plan t woven r =
       let same = one_file output r.file (file_read t.woven.out) r.read.file t.reads.file in
-      ap (λ (p : Progress). p.state.outcome) (r.run ∙ ap (λ f. progress (begun (start (loaded_file f) zeros)) most_steps) same)
+      ap (λ (p : Progress). p.state.outcome) (r.run ∙ ap (λ f. progress (first_state (start (loaded_file f) zeros)) most_steps) same)
       ∙ output_ended seed size most_steps some most (omega arith) t.woven.out t.woven.file t.within.code

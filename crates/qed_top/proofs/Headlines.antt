@@ -5,7 +5,7 @@ use Rattle.std.specs.FinMap.{insert}
 use Rattle.machine.specs.declared.limits.Limit.TheVariants.{FileBytes}
 use Rattle.tests.specs.Elf.FileRead.{file_read}
 use Rattle.qed_top.specs.Answer.{CallsFor, read_fault, too_long, within, FilesAfter, limit_of}
-use Rattle.qed_top.specs.Loads.{Loads, Files, file_bytes}
+use Rattle.qed_top.specs.Loads.{LoadedFiles, Files, file_bytes}
 use Rattle.qed_top.specs.Makes.{IsMade, MakesOutput, Delivers}
 use Rattle.qed_top.specs.Refused.{refused, made, Options}
 use Rattle.qed_top.specs.Orders.{IsUsage, OrderCallsFor, WordsCallFor, Order, Transform, asked, Reason}
@@ -34,7 +34,7 @@ module _ (input output : List ℕ) (o : Options) where
 
   -- the words are those of `transform`
   meant_of :
-      (words : List (List ℕ)) (loads : Loads) (rose : List ℕ → Type 0) (answer : Answer) → asked words ≡ Ok (Transform input output o)
+      (words : List (List ℕ)) (loads : LoadedFiles) (rose : List ℕ → Type 0) (answer : Answer) → asked words ≡ Ok (Transform input output o)
       → WordsCallFor words loads rose answer → OrderCallsFor (Transform input output o) loads rose answer
   meant_of words loads rose answer is m =
       subst (λ (ask : Result Order Reason). MatchResult ask (λ order. OrderCallsFor order loads rose answer) (λ reason. IsUsage reason answer)) is m
@@ -65,7 +65,7 @@ module _ (call : Call) (files : Files) (input output : List ℕ) (o : Options) w
 
 -- the files at the first load
 delivered_of :
-    (call : Call) (loads : Loads) (input output : List ℕ) (o : Options) → asked call.words ≡ Ok (Transform input output o) → EndsOver call loads Done
+    (call : Call) (loads : LoadedFiles) (input output : List ℕ) (o : Options) → asked call.words ≡ Ok (Transform input output o) → EndsOver call loads Done
     → IsDelivered call (loads 0) input output o
 delivered_of call loads input output o is did =
     let m = meant_of input output o call.words loads (load_rose call) did.answer is did.meant in
@@ -79,5 +79,5 @@ delivered_of call loads input output o is did =
     }
 
 -- a call that ends holds its headline
-pub holds_headline : (call : Call) (loads : Loads) (status : Status) → EndsOver call loads status → HoldsHeadline call (loads 0) status
+pub holds_headline : (call : Call) (loads : LoadedFiles) (status : Status) → EndsOver call loads status → HoldsHeadline call (loads 0) status
 holds_headline call loads status ends input output o is was = delivered_of call loads input output o is (subst (λ s. EndsOver call loads s) was ends)

@@ -9,13 +9,13 @@ use Rattle.machine.specs.declared.limits.Limit.{Limit}
 use Rattle.qed_words.specs.Text.Plan.{read_fault_line}
 use Rattle.machine.specs.Program.{start, zeros}
 use Rattle.machine.specs.Loading.{loaded_file, ElfFile}
-use Rattle.machine.specs.Progress.{Progress, begun}
+use Rattle.machine.specs.Progress.{Progress, first_state}
 use Rattle.fault_inject.specs.Astray.{first_astray}
 use Rattle.qed_top.specs.Answer.{PrintsOnly, CallsFor, read_fault, too_long, within, limit_of, limit_line}
-use Rattle.qed_top.specs.Run.{memory_bytes, memory_limit, outcome_status, run_of, FileRuns, is_reached_word, astray_of, run_text, Test, Change, Outcome}
+use Rattle.qed_top.specs.Run.{memory_bytes, memory_limit, outcome_status, run_of, FileRuns, is_reached_word, astray_in_run, run_text, Test, Change, Outcome}
 use Rattle.qed_top.specs.Run as run
 use Rattle.qed_top.specs.Orders.{AnswersOver, IsUsage, OrderCallsFor, SourceCallsFor, WordsCallFor, reads_several, source_limit, source_name, Order, Harts, asked, Reason}
-use Rattle.qed_top.specs.Loads.{Loads, OverFiles, OverLoads, Files, file_bytes}
+use Rattle.qed_top.specs.Loads.{LoadedFiles, OverFiles, OverLoads, Files, file_bytes}
 use Rattle.qed_top.specs.declared.answer.Answer.{Answer}
 use Rattle.qed_top.specs.declared.status.Status.{Status}
 use Rattle.qed_top.specs.declared.status.Status.TheVariants as status
@@ -34,11 +34,11 @@ told_or None P files p h = record { files = files; same = tt; holds = p }
 told_or (Some f) P files p h = record { files = f; same = refl; holds = h }
 
 -- what holds of the files at all loads holds of those that contracts know
-pub always_loads : (told : Option Files) (P : Loads → Type 0) → ((loads : Loads) → P loads) → OverLoads told P
+pub always_loads : (told : Option Files) (P : LoadedFiles → Type 0) → ((loads : LoadedFiles) → P loads) → OverLoads told P
 always_loads None P h = record { loads = λ k. empty; same = tt; holds = h (λ k. empty) }
 always_loads (Some f) P h = record { loads = λ k. f; same = λ k. refl; holds = h (λ k. f) }
 
-pub loads_map : (told : Option Files) (P Q : Loads → Type 0) → ((loads : Loads) → P loads → Q loads) → OverLoads told P → OverLoads told Q
+pub loads_map : (told : Option Files) (P Q : LoadedFiles → Type 0) → ((loads : LoadedFiles) → P loads → Q loads) → OverLoads told P → OverLoads told Q
 loads_map told P Q h o = record { loads = o.loads; same = o.same; holds = h o.loads o.holds }
 
 pub same_each : (told : Option Files) (files : Files) → IfSome told (λ f. f ≡ files) → IfSome told (λ f. ℕ → f ≡ files)
@@ -133,7 +133,7 @@ over_one told order rose answer e o = over_loads told (λ f. SourceCallsFor orde
 
 -- ---- words
 -- the meaning of words, by the order that they ask for
-abbrev pub WordsBy : Result Order Reason → Loads → (List ℕ → Type 0) → Answer → Type 0
+abbrev pub WordsBy : Result Order Reason → LoadedFiles → (List ℕ → Type 0) → Answer → Type 0
 WordsBy ask loads rose answer = MatchResult ask (λ order. OrderCallsFor order loads rose answer) (λ reason. IsUsage reason answer)
 
 -- the words ask for an order, or for nothing
@@ -154,8 +154,8 @@ over_usage told words reason rose answer e plain =
 -- the text about its jumps, by a set of addresses
 pub was_told :
     (f : ElfFile) (t : Test) (steps : ℕ) (changes : List Change) (reached : ℕ → Bool) (machine : Progress) (astray : Option (ℕ × ℕ))
-    → ((a : ℕ) → reached a ≡ is_reached_word f t a) → machine ≡ begun (start (loaded_file f) zeros)
-    → astray ≡ first_astray reached machine.state changes steps → astray ≡ astray_of f t steps changes
+    → ((a : ℕ) → reached a ≡ is_reached_word f t a) → machine ≡ first_state (start (loaded_file f) zeros)
+    → astray ≡ first_astray reached machine.state changes steps → astray ≡ astray_in_run f t steps changes
 was_told f t steps changes reached machine astray same begins is =
     is
     ∙ ap (λ m. first_astray reached m.state changes steps) begins

@@ -7,7 +7,7 @@ use Rattle.machine.specs.Apart.{AllFitMemory, AreApart}
 use Rattle.machine.specs.Loading.{load_segments, ElfFile}
 use Rattle.machine.proofs.Lemmas.{length-each, All-each}
 use Rattle.qed_top.specs.Answer.{CallsFor, within}
-use Rattle.qed_top.specs.Loads.{Loads, OverFiles, OverLoads, Files, file_bytes}
+use Rattle.qed_top.specs.Loads.{LoadedFiles, OverFiles, OverLoads, Files, file_bytes}
 use Rattle.qed_top.specs.Refused.{IsUnread, ReadOn, not_read, read_on}
 use Rattle.qed_top.specs.Turns.{AreTurns, IsTaken, RunFileBytes}
 use Rattle.qed_top.specs.World.{FilesCallFor, takers, programs, AreSound}
@@ -15,15 +15,15 @@ use Rattle.qed_top.specs.declared.answer.Answer.{Answer}
 use Rattle.qed_top.proofs.Meanings.{calls_more, same_each}
 
 -- ---- loads with one in front
-abbrev with_first : Files → Loads → Loads
+abbrev with_first : Files → LoadedFiles → LoadedFiles
 with_first files loads zero = files
 with_first files loads (suc k) = loads k
 
-each_with : (f files : Files) (loads : Loads) → f ≡ files → ((k : ℕ) → f ≡ loads k) → (k : ℕ) → f ≡ with_first files loads k
+each_with : (f files : Files) (loads : LoadedFiles) → f ≡ files → ((k : ℕ) → f ≡ loads k) → (k : ℕ) → f ≡ with_first files loads k
 each_with f files loads a b zero = a
 each_with f files loads a b (suc k) = b k
 
-same_with : (told : Option Files) (files : Files) (loads : Loads) → IfSome told (λ f. f ≡ files) → IfSome told (λ f. (k : ℕ) → f ≡ loads k) → IfSome told (λ f. (k : ℕ) → f ≡ with_first files loads k)
+same_with : (told : Option Files) (files : Files) (loads : LoadedFiles) → IfSome told (λ f. f ≡ files) → IfSome told (λ f. (k : ℕ) → f ≡ loads k) → IfSome told (λ f. (k : ℕ) → f ≡ with_first files loads k)
 same_with None files loads a b = tt
 same_with (Some f) files loads a b = each_with f files loads a b
 

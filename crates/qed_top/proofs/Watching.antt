@@ -5,7 +5,7 @@ use Rattle.std.proofs.lemmas.Bool.{false≢true, and_parts, eqb-true, or_cases}
 use Rattle.std.specs.List.{list_any}
 use Rattle.tests.specs.declared.options.Options.{Options}
 use Rattle.tests.specs.declared.test.CodeWord.{CodeWord}
-use Rattle.tests.specs.Admission.Reached.{leads, once, twice, made_by, is_made, is_reached, links_to, is_in_data, AreReached}
+use Rattle.tests.specs.Admission.Reached.{leads, one_pass, twice, made_by, is_made, is_reached, links_to, is_in_data, AreReached}
 use Rattle.tests.specs.Admission.Terms.{is_named_in, ElfFile}
 use Rattle.machine.specs.Loading.{loaded_file}
 use Rattle.machine.specs.Program.{start, zeros}
@@ -13,14 +13,14 @@ use Rattle.qed_model.specs.Promise.Kept.{NotTrapped, Steady, after_input}
 use Rattle.tests.specs.Admission.Places.{image_of, half_of}
 use Rattle.test_admission.specs.Admit.{IsAdmittedAs}
 use Rattle.fault_inject.proofs.Steadiness.{steady_of}
-use Rattle.qed_top.specs.Run.{is_reached_word, astray_of, jumps_line, Test, default_options}
+use Rattle.qed_top.specs.Run.{is_reached_word, astray_in_run, jumps_line, Test, default_options}
 
 -- ---- the distance between the halves does not matter for reached addresses
 abbrev at_distance : Test → ℕ → Test
 at_distance t d = record t { distance = d }
 
 made_same : (t : Test) (d : ℕ) (near : List CodeWord) (c : CodeWord) (a : ℕ) → made_by (at_distance t d) near c a ≡ made_by t near c a
-unfolding made_by twice once leads
+unfolding made_by twice one_pass leads
 made_same t d near c a = refl
 
 all_made_same : (t : Test) (d a : ℕ) (cs : List CodeWord) → is_made (at_distance t d) a cs ≡ is_made t a cs
@@ -76,6 +76,6 @@ no_jump (Some j) e = absurd (false≢true (sym (ap is_two_words e)))
 
 -- if the line is `jumps reached`, there were no changes and the run did not trap, the input is steady for these steps
 pub told_steady :
-    (f : ElfFile) (t : Test) (steps : ℕ) → jumps_line (astray_of f t steps []) ≡ codes "jumps reached\n" → NotTrapped (after_input (loaded_file f) steps)
+    (f : ElfFile) (t : Test) (steps : ℕ) → jumps_line (astray_in_run f t steps []) ≡ codes "jumps reached\n" → NotTrapped (after_input (loaded_file f) steps)
     → Steady (loaded_file f) (is_reached_word f t) steps
-told_steady f t steps line calm = steady_of (is_reached_word f t) (start (loaded_file f) zeros) steps (no_jump (astray_of f t steps []) line) calm
+told_steady f t steps line calm = steady_of (is_reached_word f t) (start (loaded_file f) zeros) steps (no_jump (astray_in_run f t steps []) line) calm

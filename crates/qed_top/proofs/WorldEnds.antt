@@ -3,10 +3,10 @@ use Rattle.std.proofs.Common.{◌≡◌, ℕ, Bool, true, false, List, [], ◌�
 use Rattle.std.specs.List.{AllByRecursion}
 use Rattle.std.specs.Prelude.{if◌then◌else◌}
 use Rattle.qed_model.specs.Promise.Kept.{is_trapped}
-use Rattle.rv_step.specs.Known.{goes_on}
+use Rattle.rv_step.specs.Known.{does_step}
 use Rattle.harts.specs.Standing.{has_one, is_fired}
 use Rattle.machine.specs.declared.limits.Limit.TheVariants.{RunFileBytes}
-use Rattle.qed_top.specs.Loads.{Loads, file_bytes}
+use Rattle.qed_top.specs.Loads.{LoadedFiles, file_bytes}
 use Rattle.qed_top.specs.Refused.{ReadOn, ReadOnDecides, not_read, read_on, ElfFile}
 use Rattle.qed_top.specs.World.{FilesCallFor, FilesDecide, PlayDecides, Plays, later_loads, played, world_status, Counted}
 use Rattle.qed_top.specs.World as world
@@ -23,7 +23,7 @@ read_more bytes P Q answer h (not_read u) = not_read u
 read_more bytes P Q answer h (read_on f r p) = read_on f r (h f p)
 
 pub files_later :
-    (names : List (List ℕ)) (fs : List ElfFile) (turns : Option (List ℕ)) (steps : ℕ) (loads : Loads) (rose later : List ℕ → Type 0)
+    (names : List (List ℕ)) (fs : List ElfFile) (turns : Option (List ℕ)) (steps : ℕ) (loads : LoadedFiles) (rose later : List ℕ → Type 0)
     → ((name : List ℕ) → rose name → later name) → (answer : Answer) → FilesCallFor names fs turns steps loads rose answer
     → FilesCallFor names fs turns steps loads later answer
 files_later [] fs turns steps loads rose later h answer m = m
@@ -41,7 +41,7 @@ if_printed false s t p q = q
 
 world_printed : (c : Counted) → Printed (world_status c)
 world_printed c =
-    if_printed (has_one is_fired c) Fired _ tt (if_printed (has_one is_trapped c) Trapped _ tt (if_printed (has_one goes_on c) StepsSpent Done tt tt))
+    if_printed (has_one is_fired c) Fired _ tt (if_printed (has_one is_trapped c) Trapped _ tt (if_printed (has_one does_step c) StepsSpent Done tt tt))
 
 plays_tells : (fs : List ElfFile) (turns : Option (List ℕ)) (steps : ℕ) (answer : Answer) → Plays fs turns steps answer → Tells None answer
 plays_tells fs turns steps answer (world.too_large over plain) = tells Limit None answer tt plain
@@ -49,7 +49,7 @@ plays_tells fs turns steps answer (world.shared i j small least plain) = tells R
 plays_tells fs turns steps answer (world.told small none plain keeps) = tells (world_status (played fs turns steps)) None answer (world_printed (played fs turns steps)) plain
 
 pub files_tells :
-    (names : List (List ℕ)) (fs : List ElfFile) (turns : Option (List ℕ)) (steps : ℕ) (loads : Loads) (rose : List ℕ → Type 0) (answer : Answer)
+    (names : List (List ℕ)) (fs : List ElfFile) (turns : Option (List ℕ)) (steps : ℕ) (loads : LoadedFiles) (rose : List ℕ → Type 0) (answer : Answer)
     → FilesCallFor names fs turns steps loads rose answer → Tells None answer
 files_tells [] fs turns steps loads rose answer m = plays_tells fs turns steps answer m
 files_tells (name ∷ names) fs turns steps loads rose answer m =
@@ -73,7 +73,7 @@ plays_settled fs turns steps answer t (world.told small none plain keeps) (world
 plays_settled fs turns steps answer t (world.told small none plain keeps) (world.is_told l n e) = plain.status ∙ sym e
 
 pub files_settled :
-    (names : List (List ℕ)) (fs : List ElfFile) (turns : Option (List ℕ)) (steps : ℕ) (loads : Loads) (rose : List ℕ → Type 0) (answer : Answer) (t : Status)
+    (names : List (List ℕ)) (fs : List ElfFile) (turns : Option (List ℕ)) (steps : ℕ) (loads : LoadedFiles) (rose : List ℕ → Type 0) (answer : Answer) (t : Status)
     → AllByRecursion (λ name. rose name → ⊥) names → FilesCallFor names fs turns steps loads rose answer → FilesDecide names fs turns steps loads t
     → answer.status ≡ t
 files_settled [] fs turns steps loads rose answer t calm m d = plays_settled fs turns steps answer t m d

@@ -63,8 +63,8 @@ pub record ShelfSteady (load_before load_now store_before store_now : List ℕ �
   pub store : NoneChanged store_before store_now
 
 -- no count of faults changed from one state of a shelf to another
-abbrev pub IsSteady : {S : Type 0} → Ghosts S → S → S → Type 0
-IsSteady shelf old new = ShelfSteady (shelf.load_faults old) (shelf.load_faults new) (shelf.store_faults old) (shelf.store_faults new)
+abbrev pub IsFaultless : {S : Type 0} → Ghosts S → S → S → Type 0
+IsFaultless shelf old new = ShelfSteady (shelf.load_faults old) (shelf.load_faults new) (shelf.store_faults old) (shelf.store_faults new)
 
 -- the count of failed loads of a name rose from one state to another
 abbrev pub LoadRose : {S : Type 0} → Ghosts S → S → S → List ℕ → Type 0

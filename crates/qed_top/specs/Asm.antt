@@ -3,7 +3,7 @@ use Rattle.std.specs.Prelude.{◌≡◌, ◌≢◌, ℕ, List, length, IsSomeAnd
 use Rattle.report.specs.Assembly.{asm_error_line, assembly_line}
 use Rattle.rv_asm.specs.declared.error.AsmError.{AsmError}
 use Rattle.rv_asm.specs.declared.error.AsmError.TheVariants as errors
-use Rattle.rv_asm.specs.Assembled.{Assembled, IsRefused}
+use Rattle.rv_asm.specs.Assembled.{Assembled, IsTextRefused}
 use Rattle.rv_asm.specs.Counted.{code_words, data_words}
 use Rattle.qed_top.specs.Answer.{PrintsOnly}
 use Rattle.qed_top.specs.declared.answer.Answer.{Answer}
@@ -13,7 +13,7 @@ use Rattle.qed_top.specs.declared.status.Status.TheVariants.{Done, Refused}
 -- a line is faulty, or no line gives a code word
 pub record IsFaulty (text : List ℕ) (answer : Answer) : Type 0 where
   pub error : AsmError
-  pub cause : IsRefused text error
+  pub cause : IsTextRefused text error
   pub known : error ≢ errors.Memory
   pub plain : PrintsOnly Refused (asm_error_line error) answer
 
@@ -32,5 +32,5 @@ pub data Assembles (text output : List ℕ) (answer : Answer) : Type 0 where
 
 -- the status, by the facts of the text
 pub data AsmDecides (text : List ℕ) (status : Status) : Type 0 where
-  has_fault : (e : AsmError) → IsRefused text e → e ≢ errors.Memory → status ≡ Refused → AsmDecides text status
+  has_fault : (e : AsmError) → IsTextRefused text e → e ≢ errors.Memory → status ≡ Refused → AsmDecides text status
   is_file : (file : List ℕ) → Assembled text file → status ≡ Done → AsmDecides text status

@@ -37,15 +37,15 @@ told_rights course false struck = None
 told_rights course true struck = Some (rights course.runs (map range_of course.plan.span) struck)
 
 -- the text about strikes
-abbrev pub text_of : Prepared → Bool → List Struck → Option ℕ → List ℕ
-text_of course results struck trapped = campaign_text struck (told_rights course results struck) course.plan trapped
+abbrev pub strikes_text_of : Prepared → Bool → List Struck → Option ℕ → List ℕ
+strikes_text_of course results struck trapped = campaign_text struck (told_rights course results struck) course.plan trapped
 
 -- a campaign was carried out, and its text is printed
 pub record TellsCampaign (course : Prepared) (draws : Draws) (results : Bool) (answer : Answer) : Type 0 where
   pub struck : List Struck
   pub trapped : Option ℕ
   pub carried_out : IsCarriedOut course draws struck trapped
-  pub plain : PrintsOnly (campaign_status trapped) (text_of course results struck trapped) answer
+  pub plain : PrintsOnly (campaign_status trapped) (strikes_text_of course results struck trapped) answer
 
 -- the test was transformed, and its output struck
 pub record IsStruck (bytes : List ℕ) (o : Options) (draws : Draws) (results : Bool) (answer : Answer) : Type 0 where
@@ -61,4 +61,5 @@ Campaigns bytes o draws results answer = Makes bytes o (IsStruck bytes o draws r
 abbrev pub CampaignDecides : List ℕ → Options → Draws → Status → Type 0
 CampaignDecides bytes o draws status =
     MakesDecides bytes o
-    ((course : Prepared) (struck : List Struck) (trapped : Option ℕ) → IsCourse bytes o course → IsCarriedOut course draws struck trapped → status ≡ campaign_status trapped) status
+    ((course : Prepared) (struck : List Struck) (trapped : Option ℕ)
+    → IsCourse bytes o course → IsCarriedOut course draws struck trapped → status ≡ campaign_status trapped) status

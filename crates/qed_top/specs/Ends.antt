@@ -1,7 +1,7 @@
 -- How the top call ends.
 use Rattle.std.specs.Prelude.{◌≡◌, ◌≢◌, ◌⊎◌, ℕ, Bool, true, false, List, [], Option, MatchOption, MatchResult, IfOk, IfSome, All}
 use Rattle.std.specs.Io.KnownBytes.{Appends}
-use Rattle.qed_io.specs.Sink.{AppendsPart}
+use Rattle.qed_io.specs.Sink.{AppendsPrefix}
 use Rattle.qed_io.specs.declared.shelf.Shelf as shelves
 use Rattle.qed_io.specs.declared.sink.Sink as sinks
 use Rattle.tests.specs.declared.admit.AdmitError.{AdmitError}
@@ -15,8 +15,9 @@ use Rattle.qed_top.specs.Asm.{AsmDecides}
 use Rattle.qed_top.specs.Campaign.{CampaignDecides}
 use Rattle.qed_top.specs.Explain.{ExplainDecides}
 use Rattle.qed_top.specs.Gen.{GenDecides}
-use Rattle.qed_top.specs.Loads.{Decided, Loads, OverLoads, Files, file_bytes}
-use Rattle.qed_top.specs.Orders.{WordsCallFor, source_name, source_names, source_limit, stored_name, Order, Transform, Plan, Explain, Run, Campaign, Gen, Asm, Harts, Tell, asked}
+use Rattle.qed_top.specs.Loads.{Decided, LoadedFiles, OverLoads, Files, file_bytes}
+use Rattle.qed_top.specs.Orders.{WordsCallFor, source_name, source_names, source_limit, stored_name, Order, Transform, Plan, Explain, Run, Campaign, Gen, Asm}
+use Rattle.qed_top.specs.Orders.{Harts, Tell, asked}
 use Rattle.qed_top.specs.World.{FilesDecide}
 use Rattle.qed_top.specs.declared.answer.Answer.{Answer}
 use Rattle.qed_top.specs.declared.status.Status.{Status}
@@ -72,7 +73,7 @@ abbrev pub KeepsShelf : Call → Type 0
 KeepsShelf call = ShelfSteady call.before.load call.after.load call.before.store call.after.store
 
 -- the answer that the words and these files call for was stored and printed, with its status
-pub record IsAnswered (call : Call) (loads : Loads) (status : Status) : Type 0 where
+pub record IsAnswered (call : Call) (loads : LoadedFiles) (status : Status) : Type 0 where
   pub answer : Answer
   pub meant : WordsCallFor call.words loads (load_rose call) answer
   pub same_status : answer.status ≡ status
@@ -80,14 +81,14 @@ pub record IsAnswered (call : Call) (loads : Loads) (status : Status) : Type 0 w
   pub printed : Appends call.was call.now answer.text
 
 -- the answer was stored, and the print stopped before its end
-pub record StoppedInPrint (call : Call) (loads : Loads) : Type 0 where
+pub record StoppedInPrint (call : Call) (loads : LoadedFiles) : Type 0 where
   pub answer : Answer
   pub meant : WordsCallFor call.words loads (load_rose call) answer
   pub stored : FilesAfter answer.stored call.old call.new
-  pub printed : AppendsPart call.was call.now answer.text
+  pub printed : AppendsPrefix call.was call.now answer.text
 
 -- the store of the answer failed, and nothing was printed
-pub record StoppedInStore (call : Call) (loads : Loads) : Type 0 where
+pub record StoppedInStore (call : Call) (loads : LoadedFiles) : Type 0 where
   pub answer : Answer
   pub meant : WordsCallFor call.words loads (load_rose call) answer
   pub cause : StoreRose answer.stored (store_rose call)
@@ -102,13 +103,13 @@ pub record Unchanged (call : Call) : Type 0 where
   pub sink : call.after.sink ≡ call.before.sink
 
 -- the print stopped for want of memory; no fault was counted, except by the shelf if a read fault was to be printed
-pub record StoppedForMemory (call : Call) (loads : Loads) : Type 0 where
+pub record StoppedForMemory (call : Call) (loads : LoadedFiles) : Type 0 where
   pub stopped : StoppedInPrint call loads
   pub shelf : stopped.answer.status ≢ ReadFault → KeepsShelf call
   pub sink : call.after.sink ≡ call.before.sink
 
 -- the end of the call over these files at its loads, by its status
-abbrev pub EndsOver : Call → Loads → Status → Type 0
+abbrev pub EndsOver : Call → LoadedFiles → Status → Type 0
 EndsOver call loads WriteFault = (sink_rose call × StoppedInPrint call loads) ⊎ StoppedInStore call loads
 EndsOver call loads Memory = Unchanged call ⊎ StoppedForMemory call loads
 EndsOver call loads status = IsAnswered call loads status
@@ -159,12 +160,12 @@ SourceDecides order files status =
     (λ name. Decided (limit_of (source_limit order)) (file_bytes files name) (DecidesOver order (file_bytes files name) status) status)
 
 -- the status of any order over the files at each load
-abbrev pub OrderDecides : Order → Loads → Status → Type 0
+abbrev pub OrderDecides : Order → LoadedFiles → Status → Type 0
 OrderDecides (Harts files turns steps) loads status = FilesDecide files [] turns steps loads status
 OrderDecides order loads status = SourceDecides order (loads 0) status
 
 -- the status that the words and the files decide
-abbrev pub Decides : List (List ℕ) → Loads → Status → Type 0
+abbrev pub Decides : List (List ℕ) → LoadedFiles → Status → Type 0
 Decides words loads status = MatchResult (asked words) (λ order. OrderDecides order loads status) (λ reason. status ≡ Usage)
 
 -- no count rose: not the sink's, not of loads of a file that the order reads, not of stores of the file that it stores
@@ -174,5 +175,5 @@ pub record NoFault (call : Call) : Type 0 where
   pub store : IfOk (asked call.words) (λ order. IfSome (stored_name order) (λ name. store_rose call name → ⊥))
 
 -- without faults the status is the decided one over these files at its loads, or memory ran out
-abbrev pub IsComplete : Call → Loads → Status → Type 0
+abbrev pub IsComplete : Call → LoadedFiles → Status → Type 0
 IsComplete call loads status = NoFault call → (decided : Status) → Decides call.words loads decided → (status ≡ decided) ⊎ (status ≡ Memory)

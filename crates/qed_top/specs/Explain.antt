@@ -1,6 +1,7 @@
 -- What `explain` answers.
-use Rattle.std.specs.Prelude.{◌≡◌, ℕ, ◌-◌, ◌/◌, ◌%◌, ◌==◌, ◌&&◌, nat_le, nat_lt, if◌then◌else◌, List, length, slice_index, Option, None, Some, MatchOption, IsSomeAnd}
-use Rattle.listing.specs.Roles.{role_at, role_lines, word_text}
+use Rattle.std.specs.Prelude.{◌≡◌, ℕ, ◌-◌, ◌/◌, ◌%◌, ◌==◌, ◌&&◌, nat_le, nat_lt, if◌then◌else◌, List, length, slice_index, Option, None, Some, MatchOption}
+use Rattle.std.specs.Prelude.{IsSomeAnd}
+use Rattle.listing.specs.Roles.{role_at, role_lines, word_line}
 use Rattle.report.specs.Admission.{no_word_line}
 use Rattle.transform.specs.declared.explained.Explained.{Explained}
 use Rattle.transform.specs.Explained.{IsExplained}
@@ -22,7 +23,7 @@ number_at x a = word_number x.base (length x.words.items) a
 abbrev pub TellsWord : Explained → ℕ → Answer → Type 0
 TellsWord x a answer =
     MatchOption (number_at x a) (PrintsOnly Refused (no_word_line a) answer)
-    (λ n. IsSomeAnd (role_at x.roles.items (a - x.base)) (λ role. PrintsOnly Done (word_text role a (slice_index x.words.items n) x.file.symbols) answer))
+    (λ n. IsSomeAnd (role_at x.roles.items (a - x.base)) (λ role. PrintsOnly Done (word_line role a (slice_index x.words.items n) x.file.symbols) answer))
 
 -- all words are printed, or the word at an address
 abbrev pub TellsRoles : Explained → Option ℕ → Answer → Type 0

@@ -7,7 +7,7 @@ use Rattle.tests.specs.Files.File.{IsReadAs}
 use Rattle.tests.specs.Elf.Layout.{written}
 use Rattle.machine.specs.Loading.{loaded_file, ElfFile}
 use Rattle.machine.specs.Program.{start, zeros}
-use Rattle.machine.specs.Progress.{Progress, begun, progress}
+use Rattle.machine.specs.Progress.{Progress, first_state, progress}
 use Rattle.tests.specs.Options.{default_options}
 use Rattle.report.specs.Generated.{generated_line}
 use Rattle.test_gen.specs.Code.{code, function_count}
@@ -36,7 +36,7 @@ most_steps = 100000000
 pub record IsRunOf (bytes : List ℕ) (p : Progress) : Type 0 where
   pub file : ElfFile
   pub read : IsReadAs bytes file
-  pub run : p ≡ progress (begun (start (loaded_file file) zeros)) most_steps
+  pub run : p ≡ progress (first_state (start (loaded_file file) zeros)) most_steps
 
 -- both runs have ended, the test is stored as OUT, and the line about it, its output's plan and both runs is printed
 pub record Generates (output : List ℕ) (seed size : ℕ) (file : List ℕ) (plan : Plan) (answer : Answer) : Type 0 where

@@ -17,7 +17,7 @@ use Rattle.qed_words.specs.Text.Plan.{plan_line}
 use Rattle.qed_words.specs.Words.{asked}
 use Rattle.transform.specs.Transform.{Promised}
 use Rattle.qed_top.specs.Ends.{Call, EndsOver, IsComplete}
-use Rattle.qed_top.specs.Loads.{Loads, OverLoads, Files, file_bytes}
+use Rattle.qed_top.specs.Loads.{LoadedFiles, OverLoads, Files, file_bytes}
 use Rattle.qed_top.specs.declared.status.Status.{Status}
 use Rattle.qed_top.specs.declared.status.Status.TheVariants.{Done}
 
@@ -59,7 +59,7 @@ HoldsHeadline call files status =
 
 -- what holds of a call with this status, over these files at its loads: the headline, why the status comes with what
 -- was stored and printed, and which status comes without faults
-pub record HoldsOver (call : Call) (status : Status) (loads : Loads) : Type 0 where
+pub record HoldsOver (call : Call) (status : Status) (loads : LoadedFiles) : Type 0 where
   pub headline : HoldsHeadline call (loads 0) status
   pub ends : EndsOver call loads status
   pub complete : IsComplete call loads status

@@ -11,12 +11,12 @@ pub record OverFiles (told : Option Files) (Holds : Files → Type 0) : Type 0 w
   pub holds : Holds files
 
 -- the files at each load of a call, from load 0 on
-abbrev pub Loads : Type 0
-Loads = ℕ → Files
+abbrev pub LoadedFiles : Type 0
+LoadedFiles = ℕ → Files
 
 -- a property of the files at each load: those that contracts know; if they know none, of some
-pub record OverLoads (told : Option Files) (Holds : Loads → Type 0) : Type 0 where
-  pub loads : Loads
+pub record OverLoads (told : Option Files) (Holds : LoadedFiles → Type 0) : Type 0 where
+  pub loads : LoadedFiles
   pub same : IfSome told (λ f. (k : ℕ) → f ≡ loads k)
   pub holds : Holds loads
 

@@ -16,7 +16,7 @@ use Rattle.qed_top.specs.Campaign.{Campaigns}
 use Rattle.qed_top.specs.Explain.{Explains}
 use Rattle.qed_top.specs.Gen.{Gens}
 use Rattle.qed_top.specs.Makes.{MakesOutput, Delivers, TellsPlan}
-use Rattle.qed_top.specs.Loads.{Loads, Files, file_bytes}
+use Rattle.qed_top.specs.Loads.{LoadedFiles, Files, file_bytes}
 use Rattle.qed_top.specs.Run.{RunsAs}
 use Rattle.qed_top.specs.World.{FilesCallFor}
 use Rattle.qed_top.specs.declared.answer.Answer.{Answer}
@@ -34,14 +34,14 @@ source_name (order.List file) = Some file
 source_name (Asm text output) = Some text
 source_name _ = None
 
-abbrev pub listed : Option (List ℕ) → List (List ℕ)
-listed None = []
-listed (Some name) = name ∷ []
+abbrev pub listed_rest : Option (List ℕ) → List (List ℕ)
+listed_rest None = []
+listed_rest (Some name) = name ∷ []
 
 -- the names of all files that an order reads, in their order
 abbrev pub source_names : Order → List (List ℕ)
 source_names (Harts files turns steps) = files
-source_names order = listed (source_name order)
+source_names order = listed_rest (source_name order)
 
 -- whether an order reads several files
 abbrev pub reads_several : Order → Bool
@@ -86,10 +86,10 @@ SourceCallsFor order files rose answer =
     (λ name. CallsFor (source_limit order) (file_bytes files name) (rose name) (AnswersOver order (file_bytes files name) answer) answer)
 
 -- what any order calls for over the files at each load
-abbrev pub OrderCallsFor : Order → Loads → (List ℕ → Type 0) → Answer → Type 0
+abbrev pub OrderCallsFor : Order → LoadedFiles → (List ℕ → Type 0) → Answer → Type 0
 OrderCallsFor (Harts files turns steps) loads rose answer = FilesCallFor files [] turns steps loads rose answer
 OrderCallsFor order loads rose answer = SourceCallsFor order (loads 0) rose answer
 
 -- what the words call for
-abbrev pub WordsCallFor : List (List ℕ) → Loads → (List ℕ → Type 0) → Answer → Type 0
+abbrev pub WordsCallFor : List (List ℕ) → LoadedFiles → (List ℕ → Type 0) → Answer → Type 0
 WordsCallFor words loads rose answer = MatchResult (asked words) (λ order. OrderCallsFor order loads rose answer) (λ reason. IsUsage reason answer)

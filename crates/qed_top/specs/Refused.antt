@@ -29,7 +29,7 @@ error_status _ = Refused
 -- E1 to E13, L5 or L10: the first rule that refuses the bytes, with its place or number
 pub record IsUnread (bytes : List ℕ) (answer : Answer) : Type 0 where
   pub error : ElfError
-  pub cause : Refusals.IsRefused bytes error
+  pub cause : Refusals.IsFileRefused bytes error
   pub plain : PrintsOnly (error_status error) (error_line error) answer
 
 -- the bytes are not read (E1 to E13, L5 or L10), or they are a file with a further property
@@ -39,7 +39,7 @@ pub data ReadOn (bytes : List ℕ) (Next : ElfFile → Type 0) (answer : Answer)
 
 -- the status for bytes, by whether they are read
 pub data ReadOnDecides (bytes : List ℕ) (Next : ElfFile → Type 0) (status : Status) : Type 0 where
-  is_not_read : (e : ElfError) → Refusals.IsRefused bytes e → status ≡ error_status e → ReadOnDecides bytes Next status
+  is_not_read : (e : ElfError) → Refusals.IsFileRefused bytes e → status ≡ error_status e → ReadOnDecides bytes Next status
   is_read : (f : ElfFile) → IsReadAs bytes f → Next f → ReadOnDecides bytes Next status
 
 -- ---- files that are not admitted

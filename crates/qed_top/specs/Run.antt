@@ -13,7 +13,7 @@ use Rattle.tests.specs.Files.File.{IsReadAs}
 use Rattle.tests.specs.Admission.Reached.{is_reached}
 use Rattle.machine.specs.Loading.{loaded_file, Segment, ElfFile}
 use Rattle.machine.specs.Program.{start, zeros}
-use Rattle.machine.specs.Progress.{Progress, begun}
+use Rattle.machine.specs.Progress.{Progress, first_state}
 pub use Rattle.tests.specs.Options.{default_options}
 use Rattle.qed_model.specs.Promise.Changed.{changed_run}
 pub use Rattle.qed_words.specs.Text.Run.{jumps_line, run_text}
@@ -37,7 +37,7 @@ memory_limit = limit_of limit.MemoryBytes
 abbrev pub run_of : ElfFile → ℕ → List Change → Progress
 run_of file steps changes = record {
   state = changed_run (start (loaded_file file) zeros) changes steps;
-  steps = changed_steps (begun (start (loaded_file file) zeros)) changes steps;
+  steps = changed_steps (first_state (start (loaded_file file) zeros)) changes steps;
 }
 
 -- the status that goes with the end of a run
@@ -64,7 +64,8 @@ pub data InMemoryDecides (f : ElfFile) (done status : Status) : Type 0 where
 
 -- a file is run, and a text about its jumps, which may be empty, is printed too
 abbrev pub HasRun : ElfFile → ℕ → List Change → List ℕ → Option (ℕ × ℕ) → Answer → Type 0
-HasRun f steps changes jumps dump answer = PrintsOnly (outcome_status (run_of f steps changes).state.outcome) (run_text (run_of f steps changes) jumps dump) answer
+HasRun f steps changes jumps dump answer =
+    PrintsOnly (outcome_status (run_of f steps changes).state.outcome) (run_text (run_of f steps changes) jumps dump) answer
 
 abbrev pub FileRuns : ElfFile → ℕ → List Change → List ℕ → Option (ℕ × ℕ) → Answer → Type 0
 FileRuns f steps changes jumps dump answer = InMemory f (HasRun f steps changes jumps dump answer) answer
@@ -79,13 +80,13 @@ abbrev pub is_reached_word : ElfFile → Test → ℕ → Bool
 is_reached_word f t a = list_any (λ c. (c.at == a) && is_reached f t c.at) t.code
 
 -- the first indirect jump to no reached code word, in `steps` steps of a file with changes, and its target
-abbrev pub astray_of : ElfFile → Test → ℕ → List Change → Option (ℕ × ℕ)
-astray_of f t steps changes = first_astray (is_reached_word f t) (start (loaded_file f) zeros) changes steps
+abbrev pub astray_in_run : ElfFile → Test → ℕ → List Change → Option (ℕ × ℕ)
+astray_in_run f t steps changes = first_astray (is_reached_word f t) (start (loaded_file f) zeros) changes steps
 
 -- the text about that jump; empty without a test
 abbrev pub jumps_of : ElfFile → Option Test → ℕ → List Change → List ℕ
 jumps_of f None steps changes = []
-jumps_of f (Some t) steps changes = jumps_line (astray_of f t steps changes)
+jumps_of f (Some t) steps changes = jumps_line (astray_in_run f t steps changes)
 
 -- the file is read, and is a test by the rules of `transform` without options; the text covers its indirect jumps
 pub record IsWatched (bytes : List ℕ) (steps : ℕ) (changes : List Change) (dump : Option (ℕ × ℕ)) (answer : Answer) : Type 0 where
@@ -93,7 +94,7 @@ pub record IsWatched (bytes : List ℕ) (steps : ℕ) (changes : List Change) (d
   pub read : IsReadAs bytes file
   pub test : Test
   pub admitted : IsAdmittedAs file default_options test
-  pub runs : FileRuns file steps changes (jumps_line (astray_of file test steps changes)) dump answer
+  pub runs : FileRuns file steps changes (jumps_line (astray_in_run file test steps changes)) dump answer
 
 -- the answer over the bytes of the file, which are within the limit; what is not a test is refused as by `transform`
 pub data Watches (bytes : List ℕ) (steps : ℕ) (changes : List Change) (dump : Option (ℕ × ℕ)) (answer : Answer) : Type 0 where

@@ -2,9 +2,9 @@
 ghost use Rattle.std.specs.Prelude.{◌≡◌, ◌≢◌, ◌⊎◌, IfOk, OnOk, IsSome, IsErrOf};
 ghost use Rattle.std.specs.Io.KnownBytes.{Appends};
 ghost use Rattle.qed_io.specs.Counts.{Rose, RoseAt, NoneFell};
-ghost use Rattle.qed_io.specs.Sink.{AppendsPart};
+ghost use Rattle.qed_io.specs.Sink.{AppendsPrefix};
 ghost use Rattle.qed_words.specs.Text.Errors.{limit_line};
-ghost use Rattle.qed_top.specs.Answer.{PrintsOnly, FilesAfter, FilesInPart, StoreRose, IsSteady};
+ghost use Rattle.qed_top.specs.Answer.{PrintsOnly, FilesAfter, FilesInPart, StoreRose, IsFaultless};
 
 use crate::fault::Fault;
 use crate::status::Status;
@@ -55,7 +55,7 @@ fn store_file<S: Shelf>(stored: &Option<Stored>, shelf: &mut S) -> Result<(), Fa
     ensures store { IsErrOf result Fault.Store → StoreRose stored.now (RoseAt (S.store_faults shelf.old) (S.store_faults shelf.new)) }
     ensures part { IsErrOf result Fault.Store → FilesInPart stored.now (S.files shelf.old) (S.files shelf.new) }
     ensures memory { IsErrOf result Fault.Memory → IsSome stored.now × (S.files shelf.new ≡ S.files shelf.old) }
-    ensures steady { result ≢ Err Fault.Store → IsSteady S.Shelf shelf.old shelf.new }
+    ensures steady { result ≢ Err Fault.Store → IsFaultless S.Shelf shelf.old shelf.new }
     ensures print { IsErrOf result Fault.Print → ⊥ }
     ensures loads { NoneFell (S.load_faults shelf.old) (S.load_faults shelf.new) }
 {
@@ -75,14 +75,14 @@ pub fn carry_out<S: Shelf, K: Sink>(
     ensures text { OnOk result (Appends (K.written out.old) (K.written out.new) answer.now.text) }
     ensures print { IsErrOf result Fault.Print → Rose (K.faults out.old) (K.faults out.new) }
     ensures print_files { IsErrOf result Fault.Print → FilesAfter answer.now.stored (S.files shelf.old) (S.files shelf.new) }
-    ensures print_text { IsErrOf result Fault.Print → AppendsPart (K.written out.old) (K.written out.new) answer.now.text }
+    ensures print_text { IsErrOf result Fault.Print → AppendsPrefix (K.written out.old) (K.written out.new) answer.now.text }
     ensures store { IsErrOf result Fault.Store → StoreRose answer.now.stored (RoseAt (S.store_faults shelf.old) (S.store_faults shelf.new)) }
     ensures store_files { IsErrOf result Fault.Store → FilesInPart answer.now.stored (S.files shelf.old) (S.files shelf.new) }
     ensures store_text { IsErrOf result Fault.Store → K.written out.new ≡ K.written out.old }
     ensures memory { IsErrOf result Fault.Memory →
         (IsSome answer.now.stored × (S.files shelf.new ≡ S.files shelf.old) × (K.written out.new ≡ K.written out.old))
-        ⊎ (FilesAfter answer.now.stored (S.files shelf.old) (S.files shelf.new) × AppendsPart (K.written out.old) (K.written out.new) answer.now.text) }
-    ensures memory_shelf { IsErrOf result Fault.Memory → IsSteady S.Shelf shelf.old shelf.new }
+        ⊎ (FilesAfter answer.now.stored (S.files shelf.old) (S.files shelf.new) × AppendsPrefix (K.written out.old) (K.written out.new) answer.now.text) }
+    ensures memory_shelf { IsErrOf result Fault.Memory → IsFaultless S.Shelf shelf.old shelf.new }
     ensures memory_sink { IsErrOf result Fault.Memory → K.faults out.new ≡ K.faults out.old }
     ensures loads { NoneFell (S.load_faults shelf.old) (S.load_faults shelf.new) }
 {

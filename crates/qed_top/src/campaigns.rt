@@ -2,7 +2,7 @@
 ghost use Rattle.std.specs.Prelude.{◌≡◌, All, IfOk};
 ghost use Rattle.qed_model.specs.Promise.Changed.{Ordered};
 ghost use Rattle.qed_model.specs.Weave.SoundOptions.{AreSoundOptions};
-ghost use Rattle.qed_top.specs.Campaign.{campaign_status, text_of as text_of_campaign, Campaigns, TellsCampaign};
+ghost use Rattle.qed_top.specs.Campaign.{campaign_status, strikes_text_of as text_of_campaign, Campaigns, TellsCampaign};
 
 use crate::answer::{Answer, plain};
 use crate::refusal::refused;

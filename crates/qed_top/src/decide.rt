@@ -3,7 +3,7 @@ ghost use Rattle.std.specs.Prelude.{◌≡◌, false, IfOk, OnErr};
 ghost use Rattle.qed_io.specs.Counts.{NoneFell};
 ghost use Rattle.qed_words.specs.Words.{texts};
 ghost use Rattle.qed_words.specs.Sound.{IsSoundOrder};
-ghost use Rattle.qed_top.specs.Answer.{IsSteady, LoadRose, SteadyOrReadFault};
+ghost use Rattle.qed_top.specs.Answer.{IsFaultless, LoadRose, SteadyOrReadFault};
 ghost use Rattle.qed_top.specs.Loads.{OverFiles, OverLoads};
 ghost use Rattle.qed_top.specs.Orders.{OrderCallsFor, SourceCallsFor, WordsCallFor, reads_several};
 
@@ -29,8 +29,8 @@ fn decide_source<S: Shelf>(
     ensures meant { IfOk result (λ answer. OverFiles (S.files shelf.old) (λ files. SourceCallsFor order files (LoadRose S.Shelf shelf.old shelf.new) answer)) }
     ensures files { S.files shelf.new ≡ S.files shelf.old }
     ensures stores { NoneFell (S.store_faults shelf.old) (S.store_faults shelf.new) }
-    ensures steady { IfOk result (SteadyOrReadFault (IsSteady S.Shelf shelf.old shelf.new)) }
-    ensures memory { OnErr result (IsSteady S.Shelf shelf.old shelf.new) }
+    ensures steady { IfOk result (SteadyOrReadFault (IsFaultless S.Shelf shelf.old shelf.new)) }
+    ensures memory { OnErr result (IsFaultless S.Shelf shelf.old shelf.new) }
 {
     match source_name(&order) {
         Some(name) => {
@@ -58,8 +58,8 @@ fn decide_order<S: Shelf>(
     ensures meant { IfOk result (λ answer. OverLoads (S.files shelf.old) (λ loads. OrderCallsFor order loads (LoadRose S.Shelf shelf.old shelf.new) answer)) }
     ensures files { S.files shelf.new ≡ S.files shelf.old }
     ensures stores { NoneFell (S.store_faults shelf.old) (S.store_faults shelf.new) }
-    ensures steady { IfOk result (SteadyOrReadFault (IsSteady S.Shelf shelf.old shelf.new)) }
-    ensures memory { OnErr result (IsSteady S.Shelf shelf.old shelf.new) }
+    ensures steady { IfOk result (SteadyOrReadFault (IsFaultless S.Shelf shelf.old shelf.new)) }
+    ensures memory { OnErr result (IsFaultless S.Shelf shelf.old shelf.new) }
 {
     match order {
         Order::Harts(names, turns, steps) => Ok(answer_harts(
@@ -80,11 +80,12 @@ pub fn decide<S: Shelf>(
     shelf: &mut S,
     progress: &mut dyn Progress,
 ) -> Result<Answer, AllocError>
-    ensures meant { IfOk result (λ answer. OverLoads (S.files shelf.old) (λ loads. WordsCallFor (texts words.now) loads (LoadRose S.Shelf shelf.old shelf.new) answer)) }
+    ensures meant { IfOk result (λ answer. OverLoads (S.files shelf.old) (λ loads.
+        WordsCallFor (texts words.now) loads (LoadRose S.Shelf shelf.old shelf.new) answer)) }
     ensures files { S.files shelf.new ≡ S.files shelf.old }
     ensures stores { NoneFell (S.store_faults shelf.old) (S.store_faults shelf.new) }
-    ensures steady { IfOk result (SteadyOrReadFault (IsSteady S.Shelf shelf.old shelf.new)) }
-    ensures memory { OnErr result (IsSteady S.Shelf shelf.old shelf.new) }
+    ensures steady { IfOk result (SteadyOrReadFault (IsFaultless S.Shelf shelf.old shelf.new)) }
+    ensures memory { OnErr result (IsFaultless S.Shelf shelf.old shelf.new) }
 {
     match order(alloc, words) {
         Ok(order) => Ok(decide_order(alloc, order, shelf, progress)?),

@@ -4,7 +4,7 @@ ghost use Rattle.qed_io.specs.Counts.{NoneFell};
 ghost use Rattle.qed_io.specs.Files.{file_bytes};
 ghost use Rattle.machine.specs.Limits.{limit_of};
 ghost use Rattle.qed_words.specs.Text.Plan.{read_fault_line};
-ghost use Rattle.qed_top.specs.Answer.{CallsFor, PrintsOnly, IsSteady, LoadRose, SteadyOrReadFault};
+ghost use Rattle.qed_top.specs.Answer.{CallsFor, PrintsOnly, IsFaultless, LoadRose, SteadyOrReadFault};
 ghost use Rattle.qed_top.specs.Loads.{OverFiles};
 
 use crate::answer::{Answer, above_limit, plain};
@@ -32,13 +32,13 @@ pub fn read_file<S: Shelf>(
 ) -> Result<Result<Bytes, Answer>, AllocError>
     ensures bytes { IfOk result (λ read. IfOk read (λ bytes. IfSome (S.files shelf.old) (λ files. bytes ≡ file_bytes files name.now))) }
     ensures within { IfOk result (λ read. IfOk read (λ bytes. length bytes ≤ limit_of limit)) }
-    ensures loaded { IfOk result (λ read. OnOk read (IsSteady S.Shelf shelf.old shelf.new)) }
+    ensures loaded { IfOk result (λ read. OnOk read (IsFaultless S.Shelf shelf.old shelf.new)) }
     ensures other { IfOk result (λ read. IfErr read (λ answer. OverFiles (S.files shelf.old) (λ files.
         CallsFor limit (file_bytes files name.now) (LoadRose S.Shelf shelf.old shelf.new name.now) ⊥ answer))) }
     ensures files { S.files shelf.new ≡ S.files shelf.old }
     ensures stores { NoneFell (S.store_faults shelf.old) (S.store_faults shelf.new) }
-    ensures steady { IfOk result (λ read. IfErr read (SteadyOrReadFault (IsSteady S.Shelf shelf.old shelf.new))) }
-    ensures memory { OnErr result (IsSteady S.Shelf shelf.old shelf.new) }
+    ensures steady { IfOk result (λ read. IfErr read (SteadyOrReadFault (IsFaultless S.Shelf shelf.old shelf.new))) }
+    ensures memory { OnErr result (IsFaultless S.Shelf shelf.old shelf.new) }
 {
     // Made before the load, so that want of memory shows before a fault, not instead of it.
     let fault = read_fault(alloc)?;

@@ -144,7 +144,8 @@ fn answer_file(
     requires fit { AllFitMemory (load_segments file.now.segments) }
     requires apart { AreApart (load_segments file.now.segments) }
     requires sound { IsSoundRun way.now.steps way.now.changes way.now.dump }
-    ensures { IfOk result (FileRuns file.now way.now.steps way.now.changes (jumps_of file.now (option_copied test.entry) way.now.steps way.now.changes) way.now.dump) }
+    ensures { IfOk result (FileRuns file.now way.now.steps way.now.changes
+        (jumps_of file.now (option_copied test.entry) way.now.steps way.now.changes) way.now.dump) }
 {
     if let Some(answer) = above_memory(alloc, file)? {
         return Ok(answer);

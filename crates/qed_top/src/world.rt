@@ -13,11 +13,11 @@ ghost use Rattle.machine.specs.declared.limits.Limit.TheVariants.{RunFileBytes};
 ghost use Rattle.machine.specs.Apart.{AllFitMemory, AreApart};
 ghost use Rattle.machine.specs.Loading.{load_segments};
 ghost use Rattle.qed_words.specs.Sound.{IsSoundSchedule};
-ghost use Rattle.qed_top.specs.Answer.{CallsFor, IsSteady, LoadRose, SteadyOrReadFault};
+ghost use Rattle.qed_top.specs.Answer.{CallsFor, IsFaultless, LoadRose, SteadyOrReadFault};
 ghost use Rattle.qed_top.specs.Loads.{OverFiles, OverLoads};
 ghost use Rattle.qed_top.specs.Refused.{IsUnread};
 ghost use Rattle.qed_top.specs.Turns.{AreTurns, IsTaken, LeadsFrom, TellsTurns};
-ghost use Rattle.qed_top.specs.World.{FilesCallFor, Plays, all_bytes, takers as takers_of, world_status};
+ghost use Rattle.qed_top.specs.World.{FilesCallFor, Plays, bytes_of_files, takers as takers_of, world_status};
 ghost use Rattle.qed_top.specs.declared.answer.Answer.{Answer as Answered};
 
 use crate::answer::{Answer, above_limit, plain};
@@ -38,7 +38,7 @@ use std::alloc::{AllocError, Global};
 /// The memory sizes of all PT_LOAD segments of files together, in bytes.
 fn memory_sizes(files: &[ElfFile]) -> u128
     requires { length files.now ≤ 8 }
-    ensures { result ≡ all_bytes files.now }
+    ensures { result ≡ bytes_of_files files.now }
 {
     let mut size = 0;
     for file in files {
@@ -145,13 +145,14 @@ fn read_one<S: Shelf>(
     ensures read { IfOk result (λ read. IfOk read (λ file. OverFiles (S.files shelf.old) (λ files. IsTaken (file_bytes files name.now) file))) }
     ensures fit { IfOk result (λ read. IfOk read (λ file. AllFitMemory (load_segments file.segments))) }
     ensures apart { IfOk result (λ read. IfOk read (λ file. AreApart (load_segments file.segments))) }
-    ensures loaded { IfOk result (λ read. OnOk read (IsSteady S.Shelf shelf.old shelf.new)) }
+    ensures loaded { IfOk result (λ read. OnOk read (IsFaultless S.Shelf shelf.old shelf.new)) }
     ensures other { IfOk result (λ read. IfErr read (λ answer. OverFiles (S.files shelf.old) (λ files.
-        CallsFor RunFileBytes (file_bytes files name.now) (LoadRose S.Shelf shelf.old shelf.new name.now) (IsUnread (file_bytes files name.now) answer) answer))) }
+        CallsFor RunFileBytes (file_bytes files name.now) (LoadRose S.Shelf shelf.old shelf.new name.now)
+        (IsUnread (file_bytes files name.now) answer) answer))) }
     ensures files { S.files shelf.new ≡ S.files shelf.old }
     ensures stores { NoneFell (S.store_faults shelf.old) (S.store_faults shelf.new) }
-    ensures steady { IfOk result (λ read. IfErr read (SteadyOrReadFault (IsSteady S.Shelf shelf.old shelf.new))) }
-    ensures memory { OnErr result (IsSteady S.Shelf shelf.old shelf.new) }
+    ensures steady { IfOk result (λ read. IfErr read (SteadyOrReadFault (IsFaultless S.Shelf shelf.old shelf.new))) }
+    ensures memory { OnErr result (IsFaultless S.Shelf shelf.old shelf.new) }
 {
     let loaded = read_file(alloc, name, Limit::RunFileBytes, shelf)?;
     match loaded {
@@ -172,13 +173,13 @@ fn read_files<S: Shelf>(
     ensures read { IfOk result (λ read. IfOk read (λ files. LeadsFrom (S.files shelf.old) (S.load_faults shelf.old) names.now files.items)) }
     ensures count { IfOk result (λ read. IfOk read (λ files. length files.items ≡ length names.now)) }
     ensures sound { IfOk result (λ read. IfOk read (λ files. AreSound (programs files.items))) }
-    ensures loaded { IfOk result (λ read. OnOk read (IsSteady S.Shelf shelf.old shelf.new)) }
+    ensures loaded { IfOk result (λ read. OnOk read (IsFaultless S.Shelf shelf.old shelf.new)) }
     ensures other { IfOk result (λ read. IfErr read (λ answer. (turns : Option (List ℕ)) (steps : ℕ) → OverLoads (S.files shelf.old) (λ loads.
         FilesCallFor names.now [] turns steps loads (LoadRose S.Shelf shelf.old shelf.new) answer))) }
     ensures files { S.files shelf.new ≡ S.files shelf.old }
     ensures stores { NoneFell (S.store_faults shelf.old) (S.store_faults shelf.new) }
-    ensures steady { IfOk result (λ read. IfErr read (SteadyOrReadFault (IsSteady S.Shelf shelf.old shelf.new))) }
-    ensures memory { OnErr result (IsSteady S.Shelf shelf.old shelf.new) }
+    ensures steady { IfOk result (λ read. IfErr read (SteadyOrReadFault (IsFaultless S.Shelf shelf.old shelf.new))) }
+    ensures memory { OnErr result (IsFaultless S.Shelf shelf.old shelf.new) }
 {
     let mut files = Vec::new(alloc);
     for name in names {
@@ -201,11 +202,12 @@ pub fn answer_harts<S: Shelf>(
     shelf: &mut S,
 ) -> Result<Answer, AllocError>
     requires { IsSoundSchedule names.now turns steps }
-    ensures meant { IfOk result (λ answer. OverLoads (S.files shelf.old) (λ loads. FilesCallFor names.now [] turns steps loads (LoadRose S.Shelf shelf.old shelf.new) answer)) }
+    ensures meant { IfOk result (λ answer. OverLoads (S.files shelf.old) (λ loads.
+        FilesCallFor names.now [] turns steps loads (LoadRose S.Shelf shelf.old shelf.new) answer)) }
     ensures files { S.files shelf.new ≡ S.files shelf.old }
     ensures stores { NoneFell (S.store_faults shelf.old) (S.store_faults shelf.new) }
-    ensures steady { IfOk result (SteadyOrReadFault (IsSteady S.Shelf shelf.old shelf.new)) }
-    ensures memory { OnErr result (IsSteady S.Shelf shelf.old shelf.new) }
+    ensures steady { IfOk result (SteadyOrReadFault (IsFaultless S.Shelf shelf.old shelf.new)) }
+    ensures memory { OnErr result (IsFaultless S.Shelf shelf.old shelf.new) }
 {
     let read = read_files(alloc, names, shelf)?;
     match read {

@@ -23,9 +23,9 @@ use Rattle.tests.specs.Options.{default_options}
 use Rattle.tests.specs.declared.options.Options.{Options}
 use Rattle.tests.specs.declared.options.Entries.{Entries}
 use Rattle.tests.specs.declared.options.Entries.TheVariants as entry
-use Rattle.qed_words.specs.Tables.{option_of, weave, row_of, command_of}
-use Rattle.qed_words.specs.Words.{Argument, asked, asked_of, answer, fault, first_wrong, span_in, arguments, dump, files, first_reason, first_wrong_value, is_in_range, lacks, missing, number_given, lean_options, usual_options, options, order_of, reason_of, span_of, split_reason, missing_lean, block_steps, misfit, lean_reason, window_reason, topic_reason, value_of, values, wrong_number, wrong_value, wrong_values, changes_given, draws, is_digit, steps_given, turns, wrong_turns}
-use Rattle.texts.specs.Read.{colon, parted, number}
+use Rattle.qed_words.specs.Tables.{option_of, weave, command_row_of, command_of}
+use Rattle.qed_words.specs.Words.{Argument, asked, asked_of, answer, fault, first_wrong, span_in, arguments, dump, files, first_reason, first_wrong_value, is_in_range, lacks, missing, number_given, lean_options, usual_options, options, order_of, reason_of, span_of, split_reason, missing_lean, most_block_steps, misfit, lean_reason, window_reason, topic_reason, value_of, values, wrong_number, wrong_value, wrong_values, changes_given, draws, is_digit, steps_given, turns, wrong_turns}
+use Rattle.texts.specs.Read.{colon, parted, parsed_number}
 use Rattle.qed_model.proofs.Lemmas.{in_order_ordered}
 use Rattle.qed_words.specs.Sound.{IsSoundOrder}
 use Rattle.qed_words.proofs.FewFiles.{few_files, neither, said_first}
@@ -45,7 +45,7 @@ no_reason (reason ∷ reasons) e =
 
 -- an option whose value is a number
 abbrev IsNumbered : Key → Type 0
-IsNumbered key = (count : ℕ) (value : List ℕ) → wrong_value count key value ≡ wrong_number key (number value)
+IsNumbered key = (count : ℕ) (value : List ℕ) → wrong_value count key value ≡ wrong_number key (parsed_number value)
 
 abbrev IsInRange : Key → ℕ → Type 0
 IsInRange key n = is_in_range (option_of key).value n ≡ true
@@ -64,20 +64,20 @@ if_there key None fits = tt
 if_there key (Some m) fits = fits
 
 -- the number given to an option, if any, is in its range
-given_fits : (count : ℕ) (key : Key) (texts : List (List ℕ)) → IsNumbered key → first_reason (map (wrong_value count key) texts) ≡ None → IfSome (option_and_then number (slice_get texts 0)) (IsInRange key)
+given_fits : (count : ℕ) (key : Key) (texts : List (List ℕ)) → IsNumbered key → first_reason (map (wrong_value count key) texts) ≡ None → IfSome (option_and_then parsed_number (slice_get texts 0)) (IsInRange key)
 given_fits count key [] is e = tt
 given_fits count key (text ∷ texts) is e =
-    if_there key (number text) (number_fits key (number text) (sym (is count text) ∙ (neither (wrong_value count key text) (first_reason (map (wrong_value count key) texts)) e).0))
+    if_there key (parsed_number text) (number_fits key (parsed_number text) (sym (is count text) ∙ (neither (wrong_value count key text) (first_reason (map (wrong_value count key) texts)) e).0))
 
 number_given_fits : (key : Key) (given : List Argument) → IsNumbered key → wrong_values given key ≡ None → IfSome (number_given key given) (IsInRange key)
 unfolding wrong_values number_given value_of
 number_given_fits key given is e = given_fits (length (files given)) key (values key given) is e
 
 -- the number given to an option that must be given is in its range
-asked_fits : (count : ℕ) (key : Key) (texts : List (List ℕ)) → IsNumbered key → (length texts == 0) ≡ false → first_reason (map (wrong_value count key) texts) ≡ None → IsSomeAnd (option_and_then number (slice_get texts 0)) (IsInRange key)
+asked_fits : (count : ℕ) (key : Key) (texts : List (List ℕ)) → IsNumbered key → (length texts == 0) ≡ false → first_reason (map (wrong_value count key) texts) ≡ None → IsSomeAnd (option_and_then parsed_number (slice_get texts 0)) (IsInRange key)
 asked_fits count key [] is some e = cc
 asked_fits count key (text ∷ texts) is some e =
-    number_fits key (number text) (sym (is count text) ∙ (neither (wrong_value count key text) (first_reason (map (wrong_value count key) texts)) e).0)
+    number_fits key (parsed_number text) (sym (is count text) ∙ (neither (wrong_value count key text) (first_reason (map (wrong_value count key) texts)) e).0)
 
 number_there_fits : (key : Key) (given : List Argument) → IsNumbered key → lacks given key ≡ false → wrong_values given key ≡ None → IsSomeAnd (number_given key given) (IsInRange key)
 unfolding wrong_values number_given value_of lacks
@@ -142,11 +142,11 @@ lean_fits :
     → IfSome every (IsInRange Every)
     → IfSome usual (λ n. n ≤ 2047)
     → o.inst_max ≤ 1024
-    → option_and_then (misfit o.entries (block_steps o)) (option_map (unwrap_or every) usual) ≡ None
+    → option_and_then (misfit o.entries (most_block_steps o)) (option_map (unwrap_or every) usual) ≡ None
     → IfSome (option_map (unwrap_or every) usual) (λ n. (o.entries ≡ entry.Reached) × (n ≤ 2047) × (entry_steps o.land + 27 + cost_of o.diverse * o.inst_max < n))
 lean_fits o every None fits few most e = tt
 lean_fits o every (Some usual) fits few most e =
-    let fit : (o.entries ≡ entry.Reached) × (block_steps o < unwrap_or every usual) = entries_fit o.entries (block_steps o) (unwrap_or every usual) e in
+    let fit : (o.entries ≡ entry.Reached) × (most_block_steps o < unwrap_or every usual) = entries_fit o.entries (most_block_steps o) (unwrap_or every usual) e in
     (fit.0, every_fits every usual fits few, subst (λ m. entry_steps o.land + 27 + cost_of o.diverse * m < unwrap_or every usual) (least_is o.inst_max 1024 most) fit.1)
 
 -- the given options are sound if each value fits, and the floor and the steps from check to check leave room
@@ -197,7 +197,7 @@ span_fits (Some address) (Some size) =
 
 parts_fit : (parts : Option (List ℕ × List ℕ)) → IfSome (span_in parts) IsShown
 parts_fit None = tt
-parts_fit (Some parts) = span_fits (number parts.0) (number parts.1)
+parts_fit (Some parts) = span_fits (parsed_number parts.0) (parsed_number parts.1)
 
 dump_fits : (value : Option (List ℕ)) → IfSome (option_and_then dump value) IsShown
 unfolding dump
@@ -221,7 +221,7 @@ both_there given x y test e =
 record IsFaultless (command : Command) (given : List Argument) : Type 0 where
   words : first_wrong command [] given ≡ None
   there : missing command given ≡ None
-  values : AllNone (map (wrong_values given) (row_of command).keys)
+  values : AllNone (map (wrong_values given) (command_row_of command).keys)
   room : split_reason given ≡ None
   lean : lean_reason given ≡ None
 
@@ -230,7 +230,7 @@ unfolding reason_of first_wrong_value
 faultless command given e =
     let all : AllNone (first_wrong command [] given ∷ missing command given ∷ first_wrong_value command given ∷ split_reason given ∷ missing_lean given ∷ lean_reason given ∷ window_reason given ∷ topic_reason command given ∷ [])
     = no_reason (first_wrong command [] given ∷ missing command given ∷ first_wrong_value command given ∷ split_reason given ∷ missing_lean given ∷ lean_reason given ∷ window_reason given ∷ topic_reason command given ∷ []) e in
-    record { words = all.0; there = all.1.0; values = no_reason (map (wrong_values given) (row_of command).keys) all.1.1.0; room = all.1.1.1.0; lean = all.1.1.1.1.1.0 }
+    record { words = all.0; there = all.1.0; values = no_reason (map (wrong_values given) (command_row_of command).keys) all.1.1.0; room = all.1.1.1.0; lean = all.1.1.1.1.1.0 }
 
 files_there : (count : ℕ) (other : Option Reason) → (if nat_lt count 1 then Some MissingFile else other) ≡ None → 1 ≤ count
 files_there count other e = let h = (said_first (nat_lt count 1) MissingFile other e).0 in grind (arith, nat_tests, h)

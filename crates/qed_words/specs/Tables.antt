@@ -7,7 +7,8 @@ use Rattle.qed_words.specs.declared.orders.Command.{Command}
 use Rattle.qed_words.specs.declared.orders.Command.TheVariants.{Transform, Plan, Explain, Run, Campaign, Gen, Asm, Harts, Help, Version}
 use Rattle.qed_words.specs.declared.orders.Command.TheVariants as command
 use Rattle.qed_words.specs.declared.orders.Key.{Key}
-use Rattle.qed_words.specs.declared.orders.Key.TheVariants.{InstMin, InstMax, Round, Half, Entries, Steps, Fault, Dump, Seed, Count, Size, Changes, Only, From, To, Turns, At, Sweep, Diverse, Results, Reached, Lean, Every, Land}
+use Rattle.qed_words.specs.declared.orders.Key.TheVariants.{InstMin, InstMax, Round, Half, Entries, Steps, Fault, Dump, Seed, Count, Size, Changes, Only}
+use Rattle.qed_words.specs.declared.orders.Key.TheVariants.{From, To, Turns, At, Sweep, Diverse, Results, Reached, Lean, Every, Land}
 use Rattle.qed_words.specs.declared.keys.Value.{Value}
 use Rattle.qed_words.specs.declared.keys.Value.TheVariants.{Flag, Number, Pages, Word}
 use Rattle.qed_words.specs.declared.keys.Value.TheVariants as value
@@ -64,25 +65,25 @@ pub record CommandRow : Type 0 where
   pub keys : List Key
   pub required : List Key
 
-abbrev pub row : List (List ℕ) → ℕ → ℕ → List Key → List Key → CommandRow
-row names least most keys required = record { names = names; least_files = least; most_files = most; keys = keys; required = required }
+abbrev pub command_row : List (List ℕ) → ℕ → ℕ → List Key → List Key → CommandRow
+command_row names least most keys required = record { names = names; least_files = least; most_files = most; keys = keys; required = required }
 
 -- the options of a transformation, then others
 abbrev pub weave : List Key → List Key
 weave own = InstMin ∷ InstMax ∷ Round ∷ Half ∷ Entries ∷ Sweep ∷ Diverse ∷ Lean ∷ Every ∷ Land ∷ own
 
-abbrev pub row_of : Command → CommandRow
-row_of Transform = row (codes "transform" ∷ []) 2 2 (weave []) []
-row_of Plan = row (codes "plan" ∷ []) 1 1 (weave []) []
-row_of Explain = row (codes "explain" ∷ []) 1 1 (weave (At ∷ [])) []
-row_of Run = row (codes "run" ∷ []) 1 1 (Steps ∷ Fault ∷ Dump ∷ Reached ∷ []) []
-row_of Campaign = row (codes "campaign" ∷ []) 1 1 (weave (Seed ∷ Count ∷ Changes ∷ Only ∷ From ∷ To ∷ Results ∷ [])) (Seed ∷ Count ∷ [])
-row_of Gen = row (codes "gen" ∷ []) 1 1 (Seed ∷ Size ∷ []) (Seed ∷ Size ∷ [])
-row_of command.List = row (codes "list" ∷ []) 1 1 [] []
-row_of Asm = row (codes "asm" ∷ []) 2 2 [] []
-row_of Harts = row (codes "harts" ∷ []) 1 8 (Turns ∷ Steps ∷ []) []
-row_of Help = row (codes "help" ∷ codes "--help" ∷ codes "-h" ∷ []) 0 1 [] []
-row_of Version = row (codes "version" ∷ codes "--version" ∷ []) 0 0 [] []
+abbrev pub command_row_of : Command → CommandRow
+command_row_of Transform = command_row (codes "transform" ∷ []) 2 2 (weave []) []
+command_row_of Plan = command_row (codes "plan" ∷ []) 1 1 (weave []) []
+command_row_of Explain = command_row (codes "explain" ∷ []) 1 1 (weave (At ∷ [])) []
+command_row_of Run = command_row (codes "run" ∷ []) 1 1 (Steps ∷ Fault ∷ Dump ∷ Reached ∷ []) []
+command_row_of Campaign = command_row (codes "campaign" ∷ []) 1 1 (weave (Seed ∷ Count ∷ Changes ∷ Only ∷ From ∷ To ∷ Results ∷ [])) (Seed ∷ Count ∷ [])
+command_row_of Gen = command_row (codes "gen" ∷ []) 1 1 (Seed ∷ Size ∷ []) (Seed ∷ Size ∷ [])
+command_row_of command.List = command_row (codes "list" ∷ []) 1 1 [] []
+command_row_of Asm = command_row (codes "asm" ∷ []) 2 2 [] []
+command_row_of Harts = command_row (codes "harts" ∷ []) 1 8 (Turns ∷ Steps ∷ []) []
+command_row_of Help = command_row (codes "help" ∷ codes "--help" ∷ codes "-h" ∷ []) 0 1 [] []
+command_row_of Version = command_row (codes "version" ∷ codes "--version" ∷ []) 0 0 [] []
 
 -- all commands, in the order of the texts
 abbrev pub commands : List Command
@@ -92,8 +93,8 @@ commands = Transform ∷ Plan ∷ Explain ∷ Run ∷ Campaign ∷ Gen ∷ comma
 
 -- the command with a name
 unfoldable pub command_of : List ℕ → Option Command
-command_of word = find (λ command. is_some (place_among (row_of command).names word)) commands
+command_of word = find (λ command. is_some (place_among (command_row_of command).names word)) commands
 
 -- the option of a command with a name
 unfoldable pub key_named : Command → List ℕ → Option Key
-key_named command name = find (λ key. bytes_eq (option_of key).name name) (row_of command).keys
+key_named command name = find (λ key. bytes_eq (option_of key).name name) (command_row_of command).keys

@@ -1,5 +1,7 @@
 -- What the words of the command line ask for: an order, or the first reason why they ask for none. A text is its bytes.
-use Rattle.std.specs.Prelude.{ℕ, ◌+◌, ◌*◌, ◌/◌, ◌%◌, ◌^◌, ◌==◌, nat_lt, nat_le, min, Bool, true, false, not, ◌&&◌, ◌||◌, if◌then◌else◌, Option, Some, None, is_some, unwrap_or, option_map, option_and_then, Result, Ok, Err, List, [], ◌∷◌, ◌++◌, map, length, filter_map, find, slice_get, slice_index_or, String, string_bytes}
+use Rattle.std.specs.Prelude.{ℕ, ◌+◌, ◌*◌, ◌/◌, ◌%◌, ◌^◌, ◌==◌, nat_lt, nat_le, min, Bool, true, false, not, ◌&&◌, ◌||◌, if◌then◌else◌, Option, Some, None}
+use Rattle.std.specs.Prelude.{is_some, unwrap_or, option_map, option_and_then, Result, Ok, Err, List, [], ◌∷◌, ◌++◌, map, length, filter_map, find, slice_get}
+use Rattle.std.specs.Prelude.{slice_index_or, String, string_bytes}
 use Rattle.std.specs.Option.{option_or}
 use Rattle.std.specs.Str.{bytes_eq}
 use Rattle.std.specs.List.{list_all}
@@ -24,16 +26,18 @@ use Rattle.qed_words.specs.declared.orders.Order.TheVariants as order
 use Rattle.qed_words.specs.declared.orders.Topic.{Topic}
 use Rattle.qed_words.specs.declared.orders.Topic.TheVariants as topic
 use Rattle.qed_words.specs.declared.orders.Key.{Key}
-use Rattle.qed_words.specs.declared.orders.Key.TheVariants.{InstMin, InstMax, Round, Half, Entries, Steps, Fault, Dump, Seed, Count, Size, Changes, Only, From, To, Turns, At, Sweep, Diverse, Results, Reached, Lean, Every, Land}
+use Rattle.qed_words.specs.declared.orders.Key.TheVariants.{InstMin, InstMax, Round, Half, Entries, Steps, Fault, Dump, Seed, Count, Size, Changes, Only}
+use Rattle.qed_words.specs.declared.orders.Key.TheVariants.{From, To, Turns, At, Sweep, Diverse, Results, Reached, Lean, Every, Land}
 use Rattle.qed_words.specs.declared.keys.Value.{Value}
 use Rattle.qed_words.specs.declared.keys.Value.TheVariants.{Flag, Number, Pages, Word}
 use Rattle.qed_words.specs.declared.keys.Value.TheVariants as value
 use Rattle.qed_words.specs.declared.orders.Reason.{Reason}
-use Rattle.qed_words.specs.declared.orders.Reason.TheVariants.{NoCommand, UnknownCommand, EmptyWord, UnknownOption, Repeated, MissingValue, ExtraWord, MissingFile, MissingOption, BadNumber, BadShape, OutOfRange, Split, AllEntries, FewSteps}
+use Rattle.qed_words.specs.declared.orders.Reason.TheVariants.{NoCommand, UnknownCommand, EmptyWord, UnknownOption, Repeated, MissingValue, ExtraWord}
+use Rattle.qed_words.specs.declared.orders.Reason.TheVariants.{MissingFile, MissingOption, BadNumber, BadShape, OutOfRange, Split, AllEntries, FewSteps}
 use Rattle.tests.specs.Options.{default_options}
 use Rattle.qed_model.specs.Weave.LeanBounds.{cost_of, entry_steps}
-use Rattle.qed_words.specs.Tables.{place_among, option_of, row_of, command_of, key_named}
-use Rattle.texts.specs.Read.{dash, colon, equals, letter_x, number, parted, register}
+use Rattle.qed_words.specs.Tables.{place_among, option_of, command_row_of, command_of, key_named}
+use Rattle.texts.specs.Read.{dash, colon, equals, letter_x, parsed_number, parted, register}
 use Rattle.qed_model.specs.Promise.Changed.{in_order}
 
 -- ---- words and bytes
@@ -48,22 +52,22 @@ abbrev pub word_place : ℕ → Option Place
 word_place address = if address % 8 == 0 then Some (change.Word address) else None
 
 -- a place: `x` and a register, or the address of an aligned word
-unfoldable pub place : List ℕ → Option Place
-place [] = None
-place (c ∷ cs) = if c == letter_x then option_map change.Reg (register cs) else option_and_then word_place (number (c ∷ cs))
+unfoldable pub parsed_place : List ℕ → Option Place
+parsed_place [] = None
+parsed_place (c ∷ cs) = if c == letter_x then option_map change.Reg (register cs) else option_and_then word_place (parsed_number (c ∷ cs))
 
-abbrev pub change_of : Option ℕ → Option Place → Option ℕ → Option Change
-change_of (Some step) (Some place) (Some value) = Some (record { step = step; place = place; value = value })
-change_of _ _ _ = None
+abbrev pub struck_change : Option ℕ → Option Place → Option ℕ → Option Change
+struck_change (Some step) (Some parsed_place) (Some value) = Some (record { step = step; place = parsed_place; value = value })
+struck_change _ _ _ = None
 
 -- `PLACE=V` behind a step
 abbrev pub change_from : Option ℕ → Option (List ℕ × List ℕ) → Option Change
 change_from step None = None
-change_from step (Some parts) = change_of step (place parts.0) (number parts.1)
+change_from step (Some parts) = struck_change step (parsed_place parts.0) (parsed_number parts.1)
 
 abbrev pub change_in : Option (List ℕ × List ℕ) → Option Change
 change_in None = None
-change_in (Some parts) = change_from (number parts.0) (parted equals parts.1)
+change_in (Some parts) = change_from (parsed_number parts.0) (parted equals parts.1)
 
 -- a fault: `STEP:PLACE=V`
 unfoldable pub fault : List ℕ → Option Change
@@ -77,7 +81,7 @@ span_of _ _ = None
 
 abbrev pub span_in : Option (List ℕ × List ℕ) → Option (ℕ × ℕ)
 span_in None = None
-span_in (Some parts) = span_of (number parts.0) (number parts.1)
+span_in (Some parts) = span_of (parsed_number parts.0) (parsed_number parts.1)
 
 -- a dump: `ADDR:LEN`
 unfoldable pub dump : List ℕ → Option (ℕ × ℕ)
@@ -113,13 +117,13 @@ is_flag Flag = true
 is_flag _ = false
 
 -- an option, unless it is a flag
-abbrev pub valued : Option Key → Option Key
-valued None = None
-valued (Some key) = if is_flag (option_of key).value then None else Some key
+abbrev pub takes_value : Option Key → Option Key
+takes_value None = None
+takes_value (Some key) = if is_flag (option_of key).value then None else Some key
 
 -- whether the next word is this word's value: this word is `--name`, and the option takes a value
 unfoldable pub takes_next : Command → List ℕ → Bool
-takes_next command word = is_some (valued (option_and_then (key_named command) (behind_dashes word)))
+takes_next command word = is_some (takes_value (option_and_then (key_named command) (behind_dashes word)))
 
 -- the argument for an option, if the command has it
 abbrev pub key_argument : ℕ → Option Key → List ℕ → Argument
@@ -127,13 +131,13 @@ key_argument i None value = Unknown i
 key_argument i (Some key) value = Given i key value
 
 -- `name` with the next word, or `name=value`
-abbrev pub named : Command → ℕ → List ℕ → List ℕ → Option (List ℕ × List ℕ) → Argument
-named command i text next None = key_argument i (key_named command text) next
-named command i text next (Some parts) = key_argument i (valued (key_named command parts.0)) parts.1
+abbrev pub named_argument : Command → ℕ → List ℕ → List ℕ → Option (List ℕ × List ℕ) → Argument
+named_argument command i text next None = key_argument i (key_named command text) next
+named_argument command i text next (Some parts) = key_argument i (takes_value (key_named command parts.0)) parts.1
 
 abbrev pub option_argument : Command → ℕ → List ℕ → Option (List ℕ) → Argument
 option_argument command i next None = Unknown i
-option_argument command i next (Some text) = named command i text next (parted equals text)
+option_argument command i next (Some text) = named_argument command i text next (parted equals text)
 
 -- the argument that word i is, given the word behind it
 unfoldable pub argument : Command → ℕ → List ℕ → List ℕ → Argument
@@ -188,7 +192,7 @@ wrong command before (Given i key value) =
     if nat_le (option_of key).most (length (values key before)) then Some (Repeated i)
     else if is_flag (option_of key).value || is_value value then None
     else Some (MissingValue i)
-wrong command before (File i name) = if nat_le (row_of command).most_files (length (files before)) then Some (ExtraWord i) else None
+wrong command before (File i name) = if nat_le (command_row_of command).most_files (length (files before)) then Some (ExtraWord i) else None
 
 -- the first of some reasons
 abbrev pub first_reason : List (Option Reason) → Option Reason
@@ -204,8 +208,8 @@ first_wrong command before (a ∷ rest) = option_or (wrong command before a) (fi
 
 unfoldable pub missing : Command → List Argument → Option Reason
 missing command given =
-    if nat_lt (length (files given)) (row_of command).least_files then Some MissingFile
-    else option_map MissingOption (find (lacks given) (row_of command).required)
+    if nat_lt (length (files given)) (command_row_of command).least_files then Some MissingFile
+    else option_map MissingOption (find (lacks given) (command_row_of command).required)
 
 -- ---- what is wrong with a value
 
@@ -232,7 +236,7 @@ wrong_text count key value.Fault text = wrong_shape key (is_some (fault text))
 wrong_text count key value.Dump text = wrong_shape key (is_some (dump text))
 wrong_text count key value.Turns text = wrong_turns count (turns text)
 wrong_text count key Word text = wrong_shape key (is_some (place_among (option_of key).words text))
-wrong_text count key _ text = wrong_number key (number text)
+wrong_text count key _ text = wrong_number key (parsed_number text)
 
 -- what is wrong with a value, for `count` files
 unfoldable pub wrong_value : ℕ → Key → List ℕ → Option Reason
@@ -244,7 +248,7 @@ wrong_values given key = first_reason (map (wrong_value (length (files given)) k
 
 -- what is wrong with the first wrong value, option by option
 unfoldable pub first_wrong_value : Command → List Argument → Option Reason
-first_wrong_value command given = first_reason (map (wrong_values given) (row_of command).keys)
+first_wrong_value command given = first_reason (map (wrong_values given) (command_row_of command).keys)
 
 -- ---- the options of a transformation
 
@@ -253,7 +257,7 @@ unfoldable pub value_of : Key → List Argument → Option (List ℕ)
 value_of key given = slice_get (values key given) 0
 
 unfoldable pub number_given : Key → List Argument → Option ℕ
-number_given key given = option_and_then number (value_of key given)
+number_given key given = option_and_then parsed_number (value_of key given)
 
 -- which of an option's words was given, by its place
 unfoldable pub word_given : Key → List Argument → Option ℕ
@@ -265,7 +269,17 @@ entries n = if n == 0 then entry.All else entry.Reached
 
 -- the default options of the lean form: longer pieces and more visits, since one check serves many blocks
 abbrev pub lean_options : Options
-lean_options = record { inst_min = 4; inst_max = LEAN_INST_MAX; round = LEAN_ROUND; half = None; sweep = false; diverse = false; entries = entry.Reached; lean = Some LEAN_EVERY; land = false }
+lean_options = record {
+  inst_min = 4;
+  inst_max = LEAN_INST_MAX;
+  round = LEAN_ROUND;
+  half = None;
+  sweep = false;
+  diverse = false;
+  entries = entry.Reached;
+  lean = Some LEAN_EVERY;
+  land = false;
+}
 
 unfoldable pub usual_options : List Argument → Options
 usual_options given = if lacks given Lean then default_options else lean_options
@@ -348,8 +362,8 @@ unfoldable pub missing_lean : List Argument → Option Reason
 missing_lean given = if lacks given Lean && not (lacks given Every && lacks given Land) then Some (MissingOption Lean) else None
 
 -- the most steps of a block of the lean form: of its entry, of one piece of at most 1024 instructions, and of its leave
-abbrev pub block_steps : Options → ℕ
-block_steps o = entry_steps o.land + LEAN_LEAVE_STEPS + cost_of o.diverse * min o.inst_max 1024
+abbrev pub most_block_steps : Options → ℕ
+most_block_steps o = entry_steps o.land + LEAN_LEAVE_STEPS + cost_of o.diverse * min o.inst_max 1024
 
 -- the lean form has entries only for reached addresses, and more steps from check to check than a block has
 abbrev pub misfit : weave.Entries → ℕ → ℕ → Option Reason
@@ -357,15 +371,15 @@ misfit entry.All most every = Some AllEntries
 misfit entry.Reached most every = if nat_le every most then Some (FewSteps most) else None
 
 unfoldable pub lean_reason : List Argument → Option Reason
-lean_reason given = option_and_then (misfit (options given).entries (block_steps (options given))) (options given).lean
+lean_reason given = option_and_then (misfit (options given).entries (most_block_steps (options given))) (options given).lean
 
 -- whether the least step is not below the end of the steps, if both are given
-abbrev pub is_empty : Option ℕ → Option ℕ → Bool
-is_empty (Some from) (Some to) = nat_le to from
-is_empty _ _ = false
+abbrev pub is_empty_range : Option ℕ → Option ℕ → Bool
+is_empty_range (Some from) (Some to) = nat_le to from
+is_empty_range _ _ = false
 
 unfoldable pub window_reason : List Argument → Option Reason
-window_reason given = if is_empty (number_given From given) (number_given To given) then Some (OutOfRange To) else None
+window_reason given = if is_empty_range (number_given From given) (number_given To given) then Some (OutOfRange To) else None
 
 -- why the word behind `help` is wrong: it must name a command, if it is there
 unfoldable pub topic_reason : Command → List Argument → Option Reason
@@ -376,7 +390,8 @@ topic_reason _ given = None
 unfoldable pub reason_of : Command → List Argument → Option Reason
 reason_of command given =
     first_reason
-    (first_wrong command [] given ∷ missing command given ∷ first_wrong_value command given ∷ split_reason given ∷ missing_lean given ∷ lean_reason given ∷ window_reason given ∷ topic_reason command given ∷ [])
+    (first_wrong command [] given ∷ missing command given ∷ first_wrong_value command given ∷ split_reason given
+    ∷ missing_lean given ∷ lean_reason given ∷ window_reason given ∷ topic_reason command given ∷ [])
 
 abbrev pub answer : Order → Option Reason → Result Order Reason
 answer o None = Ok o

@@ -5,6 +5,6 @@ use Rattle.qed_words.specs.declared.error.WordsError.{WordsError}
 use Rattle.qed_words.specs.declared.error.WordsError.TheVariants.{Usage, Memory}
 
 -- the cause of an error: the first reason, or want of memory
-abbrev pub Explains : List (List ℕ) → WordsError → Type 0
-Explains words (Usage reason) = asked words ≡ Err reason
-Explains words Memory = Unit {0}
+abbrev pub ExplainsWords : List (List ℕ) → WordsError → Type 0
+ExplainsWords words (Usage reason) = asked words ≡ Err reason
+ExplainsWords words Memory = Unit {0}

@@ -2,7 +2,8 @@
 ghost use Rattle.std.specs.Prelude.{◌≡◌};
 ghost use Rattle.std.specs.Option.{option_copied};
 ghost use Rattle.qed_words.specs.Tables.{option_of};
-ghost use Rattle.qed_words.specs.Words.{behind_dashes as behind_dashes_of, is_flag as is_flag_of, valued as valued_of, takes_next as takes_next_of, key_argument as key_argument_of, option_argument as option_argument_of, argument as argument_of};
+ghost use Rattle.qed_words.specs.Words.{behind_dashes as behind_dashes_of, is_flag as is_flag_of, takes_value as valued_of, takes_next as takes_next_of};
+ghost use Rattle.qed_words.specs.Words.{key_argument as key_argument_of, option_argument as option_argument_of, argument as argument_of};
 ghost use Rattle.qed_words.specs.Seen.{seen};
 
 use crate::{Command, Key, Value};

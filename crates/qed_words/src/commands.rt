@@ -1,6 +1,6 @@
 //! The commands, as a table.
 ghost use Rattle.std.specs.Prelude.{◌≡◌, map};
-ghost use Rattle.qed_words.specs.Tables.{place_among as place_among_of, row_of, command_of, key_named};
+ghost use Rattle.qed_words.specs.Tables.{place_among as place_among_of, command_row_of, command_of, key_named};
 
 use crate::Command::*;
 use crate::{Command, Key};
@@ -56,11 +56,11 @@ pub fn place_among(words: &[&str], text: &[u8]) -> Option<usize>
 impl Command {
     /// What the command takes.
     pub fn row(self) -> CommandRow
-        ensures names { map (λ name. name.now) result.names.now ≡ (row_of self).names }
-        ensures least_files { result.least_files ≡ (row_of self).least_files }
-        ensures most_files { result.most_files ≡ (row_of self).most_files }
-        ensures keys { result.keys.now ≡ (row_of self).keys }
-        ensures required { result.required.now ≡ (row_of self).required }
+        ensures names { map (λ name. name.now) result.names.now ≡ (command_row_of self).names }
+        ensures least_files { result.least_files ≡ (command_row_of self).least_files }
+        ensures most_files { result.most_files ≡ (command_row_of self).most_files }
+        ensures keys { result.keys.now ≡ (command_row_of self).keys }
+        ensures required { result.required.now ≡ (command_row_of self).required }
     {
         match self {
             Command::Transform => row!(["transform"], 2, 2, weave [], []),

@@ -1,7 +1,8 @@
 //! The files and values that were given.
 ghost use Rattle.std.specs.Prelude.{◌≡◌, map, length};
 ghost use Rattle.std.specs.Option.{option_copied};
-ghost use Rattle.qed_words.specs.Words.{name_in as name_in_of, files, file as file_of, value_in as value_in_of, values, value_of, lacks as lacks_of, number_given as number_given_of, word_given as word_given_of};
+ghost use Rattle.qed_words.specs.Words.{name_in as name_in_of, files, file as file_of, value_in as value_in_of, values, value_of, lacks as lacks_of};
+ghost use Rattle.qed_words.specs.Words.{number_given as number_given_of, word_given as word_given_of};
 ghost use Rattle.qed_words.specs.Seen.{seen};
 
 use crate::argument::Argument;

@@ -1,12 +1,12 @@
 //! The shapes of faults and dumps.
 ghost use Rattle.std.specs.Prelude.{◌≡◌};
-ghost use Rattle.qed_words.specs.Words.{place as place_of, fault as fault_of, dump as dump_of};
+ghost use Rattle.qed_words.specs.Words.{parsed_place as place_of, fault as fault_of, dump as dump_of};
 
 use qed_model::{Change, Place};
 use texts::{number, register, split_once};
 
 /// A register, or the address of an aligned word.
-#[tactic(auto, unfolding(crate::specs::Words::place))]
+#[tactic(auto, unfolding(crate::specs::Words::parsed_place))]
 fn place(text: &[u8]) -> Option<Place>
     ensures { result ≡ place_of text.now }
 {

@@ -1,6 +1,7 @@
 //! What is wrong with a value.
 ghost use Rattle.std.specs.Prelude.{◌≡◌, map};
-ghost use Rattle.qed_words.specs.Words.{is_in_range as is_in_range_of, wrong_number as wrong_number_of, wrong_value as wrong_value_of, wrong_values as wrong_values_of, first_wrong_value as first_wrong_value_of};
+ghost use Rattle.qed_words.specs.Words.{is_in_range as is_in_range_of, wrong_number as wrong_number_of, wrong_value as wrong_value_of};
+ghost use Rattle.qed_words.specs.Words.{wrong_values as wrong_values_of, first_wrong_value as first_wrong_value_of};
 ghost use Rattle.qed_words.specs.Seen.{seen};
 
 use crate::argument::Argument;

@@ -1,10 +1,11 @@
 //! The order that words ask for.
 ghost use Rattle.std.specs.Prelude.{◌≡◌, Ok, IfOk, IfErr, map, option_and_then};
 ghost use Rattle.qed_words.specs.declared.orders.Key.TheVariants as key;
-ghost use Rattle.qed_words.specs.Words.{texts, dump as dump_of, places as places_of, draws as draws_of, value_of, file as file_of, files, steps_given as steps_given_of, order_of, asked};
+ghost use Rattle.qed_words.specs.Words.{texts, dump as dump_of, places as places_of, draws as draws_of, value_of, file as file_of, files};
+ghost use Rattle.qed_words.specs.Words.{steps_given as steps_given_of, order_of, asked};
 ghost use Rattle.qed_words.specs.Seen.{seen};
 ghost use Rattle.qed_words.specs.Sound.{IsSoundOrder};
-ghost use Rattle.qed_words.specs.WordsError.{Explains};
+ghost use Rattle.qed_words.specs.WordsError.{ExplainsWords};
 
 use crate::argument::Argument;
 use crate::arguments::arguments;
@@ -141,7 +142,7 @@ fn make_order(
 pub fn order(alloc: Global, words: &[String]) -> Result<Order, WordsError>
     ensures order { IfOk result (λ order. asked (texts words.now) ≡ Ok order) }
     ensures sound { IfOk result IsSoundOrder }
-    ensures usage { IfErr result (Explains (texts words.now)) }
+    ensures usage { IfErr result (ExplainsWords (texts words.now)) }
 {
     let [word, rest @ ..] = words else {
         return Err(WordsError::Usage(Reason::NoCommand));

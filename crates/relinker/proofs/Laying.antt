@@ -16,8 +16,8 @@ use Rattle.relinker.specs.declared.error.LinkError.TheVariants as error
 use Rattle.relinker.specs.declared.layout.Layout.{Layout}
 use Rattle.relinker.specs.Counted.{HasCounted}
 use Rattle.relinker.specs.Joined.{Join}
-use Rattle.relinker.specs.Laid.{IsLaid, IsLaidIn, IsLinked, HasCause, HasLinkCause}
-use Rattle.relinker.specs.Link.{is_low, is_encoded, AreWords, moved, IsLinkable, IsWithinForm, LinksWithin, most_bytes}
+use Rattle.relinker.specs.Laid.{IsLaid, IsLaidIn, IsLinked, IsLinkCause, HasLinkCause}
+use Rattle.relinker.specs.Link.{is_low_entry, is_encoded, AreWords, moved_entry, IsLinkable, IsWithinForm, LinksWithin, most_bytes}
 use Rattle.relinker.specs.Sink.{ComeNext}
 use Rattle.relinker.proofs.Joining.{parts_join}
 use Rattle.relinker.proofs.Places.{rows_low, rows_moved, encoded_items, decoded_items}
@@ -70,7 +70,7 @@ most_least false n h = omega (arith, h)
 
 -- no item is laid out yet
 pub laid_first :
-    (count : Count) (base : ℕ) (entries : Vec EntryRow) (words : Vec ℕ) → base + 134217728 ≤ 2 ^ 63 → count.bytes + 4 ≤ most_bytes count.far → entries.items ≡ map (moved base) count.marks.items
+    (count : Count) (base : ℕ) (entries : Vec EntryRow) (words : Vec ℕ) → base + 134217728 ≤ 2 ^ 63 → count.bytes + 4 ≤ most_bytes count.far → entries.items ≡ map (moved_entry base) count.marks.items
     → words.items ≡ [] → vec_len words ≡ 0 → count.bytes + 4 ≤ 4 * vec_capacity words
     → (items : List Item) → HasCounted count items → IsLinkable count.far base items
     → IsLaid (record { far = count.far; base = base; last = base + count.bytes; at = base; entries = entries; words = words }) [] items
@@ -78,7 +78,7 @@ laid_first count base entries words high small moves none empty room items count
     let few = most_least count.far (count.bytes + 4) small in
     let exact : count.bytes ≡ sum_of_sizes count.far items = omega (arith, few, counted.bytes) in
     let rows : entries.items ≡ rows_from count.far base items =
-    moves ∙ ap (λ rs. map (moved base) rs) (counted.marks (omega (arith, few, exact))) ∙ rows_moved count.far base 0 items ∙ ap (λ n. rows_from count.far n items) (omega arith) in
+    moves ∙ ap (λ rs. map (moved_entry base) rs) (counted.marks (omega (arith, few, exact))) ∙ rows_moved count.far base 0 items ∙ ap (λ n. rows_from count.far n items) (omega arith) in
     let last : base + count.bytes ≡ base + sum_of_sizes count.far items = ap (λ n. base + n) exact in
     record {
       entries = rows;
@@ -143,14 +143,14 @@ linked_of layout words decode small done l =
     }
 
 -- the marks of counted items within the limit
-pub marks_low : (count : Count) → count.bytes + 4 ≤ most_bytes count.far → ((items : List Item) × HasCounted count items) → list_all is_low count.marks.items ≡ true
+pub marks_low : (count : Count) → count.bytes + 4 ≤ most_bytes count.far → ((items : List Item) × HasCounted count items) → list_all is_low_entry count.marks.items ≡ true
 marks_low count small c =
     let few = most_least count.far (count.bytes + 4) small in
     let exact : count.bytes ≡ sum_of_sizes count.far c.0 = omega (arith, few, c.1.bytes) in
-    ap (λ rs. list_all is_low rs) (c.1.marks (omega (arith, few, exact))) ∙ rows_low count.far 0 c.0 (omega (arith, few, exact))
+    ap (λ rs. list_all is_low_entry rs) (c.1.marks (omega (arith, few, exact))) ∙ rows_low count.far 0 c.0 (omega (arith, few, exact))
 
 -- why all items at once are not laid out
-pub link_cause : (count : Count) (far : Bool) (items : List Item) (r : Result Layout LinkError) → count.far ≡ far → HasCounted count items → IfErr r (HasCause count) → IfErr r (HasLinkCause far items)
+pub link_cause : (count : Count) (far : Bool) (items : List Item) (r : Result Layout LinkError) → count.far ≡ far → HasCounted count items → IfErr r (IsLinkCause count) → IfErr r (HasLinkCause far items)
 link_cause count far items (Ok layout) same counted e = tt
 link_cause count far items (Err (error.TooLarge n)) same counted e =
     (omega (arith, e.0, counted.bytes, ap (λ f. sum_of_sizes f items) same), subst (λ f. most_bytes f < n) same e.1)

@@ -14,7 +14,7 @@ use Rattle.qed_model.specs.Weave.Sequences.{stub}
 use Rattle.qed_model.specs.Weave.Placed.{go_size, sum_of_sizes, entry_at, entry_of, rows_from, go_words, instructions_from, placed, Decode, leads_to}
 use Rattle.machine.specs.Offsets.{distance_between, upper_part, lower_part}
 use Rattle.qed_model.proofs.Lemmas.{instructions_from-append}
-use Rattle.relinker.specs.Link.{is_low, is_encoded, moved}
+use Rattle.relinker.specs.Link.{is_low_entry, is_encoded, moved_entry}
 
 -- the stub has no mark
 mark_stub : (far : Bool) (at : ℕ) (items : List Item) (a : ℕ) → entry_at (rows_from far at (items ++ stub)) a ≡ entry_at (rows_from far at items) a
@@ -56,7 +56,7 @@ placed_stub far base items =
 elsewhere : (far : Bool) (items : List Item) (a b : ℕ) → a ≡ b → rows_from far a items ≡ rows_from far b items
 elsewhere far items a b e = ap (λ n. rows_from far n items) e
 
-pub rows_moved : (far : Bool) (base at : ℕ) (items : List Item) → map (moved base) (rows_from far at items) ≡ rows_from far (at + base) items
+pub rows_moved : (far : Bool) (base at : ℕ) (items : List Item) → map (moved_entry base) (rows_from far at items) ≡ rows_from far (at + base) items
 rows_moved far base at [] = refl
 rows_moved far base at (Mark a ∷ items) = ap (λ rs. record { input = a; output = at + base } ∷ rs) (rows_moved far base at items)
 rows_moved far base at (Plain i ∷ items) = rows_moved far base (at + 4) items ∙ elsewhere far items (at + 4 + base) (at + base + 4) (omega arith)
@@ -64,7 +64,7 @@ rows_moved far base at (Constant r c ∷ items) = rows_moved far base (at + 8) i
 rows_moved far base at (Go t ∷ items) = rows_moved far base (at + go_size far) items ∙ elsewhere far items (at + go_size far + base) (at + base + go_size far) (omega arith)
 
 -- entries stand no higher than the items
-pub rows_low : (far : Bool) (at : ℕ) (items : List Item) → at + sum_of_sizes far items < 2 ^ 32 → list_all is_low (rows_from far at items) ≡ true
+pub rows_low : (far : Bool) (at : ℕ) (items : List Item) → at + sum_of_sizes far items < 2 ^ 32 → list_all is_low_entry (rows_from far at items) ≡ true
 rows_low far at [] h = refl
 rows_low far at (Mark a ∷ items) h = grind (arith, nat_tests, common_steps, rows_low far at items (omega (arith, h)), h)
 rows_low far at (Plain i ∷ items) h = rows_low far (at + 4) items (omega (arith, h))

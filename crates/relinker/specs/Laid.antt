@@ -45,9 +45,9 @@ OneCode =
 
 -- the code of counted items, with the stub, has n bytes, past the limit of its form; or it is within the limit, and
 -- memory ran out
-abbrev pub HasCause : Count → LinkError → Type 0
-HasCause count (error.TooLarge n) = (n ≡ capped (count.bytes + 4)) × (most_bytes count.far < n)
-HasCause count error.Memory = count.bytes + 4 ≤ most_bytes count.far
+abbrev pub IsLinkCause : Count → LinkError → Type 0
+IsLinkCause count (error.TooLarge n) = (n ≡ capped (count.bytes + 4)) × (most_bytes count.far < n)
+IsLinkCause count error.Memory = count.bytes + 4 ≤ most_bytes count.far
 
 -- why items are not linked; memory may run out before all of them are counted
 abbrev pub HasLinkCause : Bool → List Item → LinkError → Type 0

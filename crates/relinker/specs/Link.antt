@@ -37,9 +37,9 @@ abbrev pub LinksWithin : Bool → ℕ → List Item → Type 0
 LinksWithin far base items = IsWithinForm far items → IsLinkable far base items
 
 -- an entry stands below 2^32
-abbrev pub is_low : EntryRow → Bool
-is_low r = nat_lt r.output (2 ^ 32)
+abbrev pub is_low_entry : EntryRow → Bool
+is_low_entry r = nat_lt r.output (2 ^ 32)
 
 -- an entry, moved by a number of bytes
-abbrev pub moved : ℕ → EntryRow → EntryRow
-moved base r = record { input = r.input; output = r.output + base }
+abbrev pub moved_entry : ℕ → EntryRow → EntryRow
+moved_entry base r = record { input = r.input; output = r.output + base }

@@ -72,7 +72,8 @@ impl Count {
     /// The count of items with known bytes and marks; the places count from 0.
     pub fn of(far: bool, bytes: u64, marks: Vec<EntryRow>) -> Count
         ensures form { result.far ≡ far }
-        ensures counted { (items : List Item) → bytes ≡ capped (sum_of_sizes far items) → (sum_of_sizes far items < 2 ^ 64 - 1 → marks.items ≡ rows_from far 0 items) → HasCounted result items }
+        ensures counted { (items : List Item) → bytes ≡ capped (sum_of_sizes far items)
+            → (sum_of_sizes far items < 2 ^ 64 - 1 → marks.items ≡ rows_from far 0 items) → HasCounted result items }
     {
         Count { far, bytes, marks }
     }

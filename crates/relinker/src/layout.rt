@@ -3,8 +3,8 @@ ghost use Rattle.std.specs.Prelude.{◌≡◌, ◌+◌, ◌^◌, ◌<◌, ◌≤
 ghost use Rattle.std.specs.List.{list_all};
 ghost use Rattle.qed_model.specs.declared.item.Item.{Item};
 ghost use Rattle.relinker.specs.Counted.{HasCounted};
-ghost use Rattle.relinker.specs.Laid.{IsLaid, IsLaidIn, IsLinked, HasCause, HasLinkCause};
-ghost use Rattle.relinker.specs.Link.{is_low, moved, IsLinkable, IsWithinForm, LinksWithin, most_bytes};
+ghost use Rattle.relinker.specs.Laid.{IsLaid, IsLaidIn, IsLinked, IsLinkCause, HasLinkCause};
+ghost use Rattle.relinker.specs.Link.{is_low_entry, moved_entry, IsLinkable, IsWithinForm, LinksWithin, most_bytes};
 ghost use Rattle.relinker.specs.Sink.{ComeNext, Takes};
 
 use crate::ItemSink;
@@ -30,9 +30,9 @@ fn limit(far: bool) -> u64
 
 /// The entries, moved by `base` bytes.
 fn moved_rows(alloc: Global, rows: &[EntryRow], base: u64) -> Result<Vec<EntryRow>, AllocError>
-    requires low { list_all is_low rows.now ≡ true }
+    requires low { list_all is_low_entry rows.now ≡ true }
     requires base { base ≤ 2 ^ 63 }
-    ensures { IfOk result (λ moved_rows. moved_rows.items ≡ map (moved base) rows.now) }
+    ensures { IfOk result (λ moved_rows. moved_rows.items ≡ map (moved_entry base) rows.now) }
 {
     let mut moved = Vec::new(alloc);
     for row in rows {
@@ -75,7 +75,7 @@ pub fn lay(alloc: Global, count: Count, base: u64) -> Result<Layout, LinkError>
     ensures base { IfOk result (λ layout. layout.base ≡ base) }
     ensures limit { IfOk result (λ _. count.bytes + 4 ≤ most_bytes count.far) }
     ensures laid { IfOk result (λ layout. (items : List Item) → HasCounted count items → IsLinkable count.far base items → IsLaid layout [] items) }
-    ensures cause { IfErr result (HasCause count) }
+    ensures cause { IfErr result (IsLinkCause count) }
 {
     let size = count.bytes.saturating_add(4);
     if size > limit(count.far) {

@@ -94,7 +94,8 @@ impl Roles {
     ///
     /// Errors: want of memory.
     pub fn finish(mut self) -> Result<Vec<RoleRow>, AllocError>
-        ensures { IfOk result (λ rows. (done : List (Role × List Item)) → HasRoles self done → HasRoles (record { far = self.far; rows = rows }) (done ++ (Role.Stub, stub) ∷ [])) }
+        ensures { IfOk result (λ rows. (done : List (Role × List Item))
+            → HasRoles self done → HasRoles (record { far = self.far; rows = rows }) (done ++ (Role.Stub, stub) ∷ [])) }
     {
         self.rows.push(RoleRow {
             role: Role::Stub,

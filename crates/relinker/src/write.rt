@@ -129,7 +129,8 @@ fn put_item(words: &mut Vec<u32>, jumps: &Jumps<'_>, item: &Item, at: u64) -> u6
     requires encoded { list_all is_encoded (instructions_from jumps.now.far (leads_to jumps.now.rows.now jumps.now.last) at (item.now ∷ [])) ≡ true }
     requires room { 4 * vec_len words.old + size_of jumps.now.far item.now ≤ 4 * vec_capacity words.old }
     requires small { AreWords words.old.items }
-    ensures decode { map decode_of words.new.items ≡ map decode_of words.old.items ++ map Some (instructions_from jumps.now.far (leads_to jumps.now.rows.now jumps.now.last) at (item.now ∷ [])) }
+    ensures decode { map decode_of words.new.items ≡ map decode_of words.old.items
+        ++ map Some (instructions_from jumps.now.far (leads_to jumps.now.rows.now jumps.now.last) at (item.now ∷ [])) }
     ensures small { AreWords words.new.items }
     ensures len { 4 * vec_len words.new ≡ 4 * vec_len words.old + size_of jumps.now.far item.now }
     ensures capacity { vec_capacity words.old ≤ vec_capacity words.new }
@@ -170,7 +171,8 @@ pub(crate) fn put_items(words: &mut Vec<u32>, jumps: &Jumps<'_>, items: &[Item],
     requires room { 4 * vec_len words.old + sum_of_sizes jumps.now.far items.now ≤ 4 * vec_capacity words.old }
     requires small { AreWords words.old.items }
     ensures at { result ≡ base + sum_of_sizes jumps.now.far items.now }
-    ensures decode { map decode_of words.new.items ≡ map decode_of words.old.items ++ map Some (instructions_from jumps.now.far (leads_to jumps.now.rows.now jumps.now.last) base items.now) }
+    ensures decode { map decode_of words.new.items ≡ map decode_of words.old.items
+        ++ map Some (instructions_from jumps.now.far (leads_to jumps.now.rows.now jumps.now.last) base items.now) }
     ensures small { AreWords words.new.items }
     ensures len { 4 * vec_len words.new ≡ 4 * vec_len words.old + sum_of_sizes jumps.now.far items.now }
     ensures capacity { vec_capacity words.old ≤ vec_capacity words.new }

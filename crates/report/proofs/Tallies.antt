@@ -8,7 +8,7 @@ use Rattle.qed_model.specs.declared.plan.Plan.{Plan}
 use Rattle.qed_model.specs.declared.verdict.Verdict.{Verdict}
 use Rattle.qed_model.specs.declared.verdict.Verdict.TheVariants.{Closed, NotReached, Fired, Ended, Same}
 use Rattle.qed_model.specs.declared.verdict.Struck.{Struck}
-use Rattle.qed_words.specs.Text.Campaign.{how_many, is_fired, is_ended, is_same, is_closed, is_not_reached, longest, fired_steps, how_many_right, summary_line}
+use Rattle.qed_words.specs.Text.Campaign.{how_many, is_fired_verdict, is_ended, is_same_verdict, is_closed_verdict, is_not_reached, longest, fired_steps, how_many_right, summary_line}
 use Rattle.qed_words.specs.Text.Plan.{bounds_text}
 use Rattle.report.specs.declared.tally.Tally.{Tally}
 use Rattle.report.specs.Tally.{counted, tally_of, tally_text, with_verdict}
@@ -23,10 +23,10 @@ longest_more (x ∷ ss) s = omega (arith, longest_more ss s)
 
 tally_more : (ss : List Struck) (s : Struck) (right : Option ℕ) → tally_of (ss ++ s ∷ []) right ≡ with_verdict (tally_of ss right) s.verdict
 tally_more ss s right = λ i. record {
-  fired = how_many_more is_fired ss s i;
+  fired = how_many_more is_fired_verdict ss s i;
   ended = record { count = how_many_more is_ended ss s i; right = right };
-  same = how_many_more is_same ss s i;
-  closed = how_many_more is_closed ss s i;
+  same = how_many_more is_same_verdict ss s i;
+  closed = how_many_more is_closed_verdict ss s i;
   not_reached = how_many_more is_not_reached ss s i;
   longest = longest_more ss s i;
 }
@@ -37,7 +37,7 @@ pub next_tally :
 next_tally ss right k s less is =
     ap (λ ts. tally_of ts right) (take_more ss k s less ∙ ap (λ x. take k ss ++ x ∷ []) (sym is)) ∙ tally_more (take k ss) s right
 
-one_verdict : (v : Verdict) → cond (is_fired v) 1 0 + cond (is_ended v) 1 0 + cond (is_same v) 1 0 + cond (is_closed v) 1 0 + cond (is_not_reached v) 1 0 ≡ 1
+one_verdict : (v : Verdict) → cond (is_fired_verdict v) 1 0 + cond (is_ended v) 1 0 + cond (is_same_verdict v) 1 0 + cond (is_closed_verdict v) 1 0 + cond (is_not_reached v) 1 0 ≡ 1
 one_verdict Closed = refl
 one_verdict NotReached = refl
 one_verdict (Fired k) = refl

@@ -25,5 +25,6 @@ drawn_text seed size words = codes "seed " ++ (decimal seed ++ (codes ", size " 
 -- what was drawn, the run of the test, its output and the run of that, and the bounds in steps
 abbrev pub generated_line : ℕ → ℕ → ℕ → Progress → Plan → Progress → List ℕ
 generated_line seed size words input plan output =
-    drawn_text seed size words ++ (codes ", input " ++ (ran_text input.state.outcome input.steps ++ (codes ", output code " ++ (decimal plan.code_bytes ++ (codes " bytes, output "
+    drawn_text seed size words ++ (codes ", input " ++ (ran_text input.state.outcome input.steps
+    ++ (codes ", output code " ++ (decimal plan.code_bytes ++ (codes " bytes, output "
     ++ (ran_text output.state.outcome output.steps ++ (codes ", " ++ (bounds_text plan.bounds.register plan.bounds.word ++ codes "\n"))))))))

@@ -1,7 +1,8 @@
 //! What is printed about strikes.
 ghost use Rattle.std.specs.Prelude.{◌≡◌, Some, IfOk, string_bytes};
 ghost use Rattle.std.specs.Option.{option_copied};
-ghost use Rattle.qed_words.specs.Text.Campaign.{place_text, change_text, changes_text, verdict_text, right_at as right_at_of, end_text, strike_line, strike_lines, campaign_text};
+ghost use Rattle.qed_words.specs.Text.Campaign.{change_place_text, change_text, changes_text, verdict_text, right_at as right_at_of, end_text, strike_line};
+ghost use Rattle.qed_words.specs.Text.Campaign.{strike_lines, campaign_text};
 
 use crate::tally::summary_line;
 use elf_types::Bytes;
@@ -15,7 +16,7 @@ use std::fmt;
 struct PlaceText(Place);
 
 impl fmt::Display for PlaceText {
-    ghost output = { λ p. Some (place_text p.0) };
+    ghost output = { λ p. Some (change_place_text p.0) };
 
     fn fmt<W: fmt::Write>(&self, f: &mut fmt::Formatter<W>) -> fmt::Result {
         match self.0 {

@@ -81,7 +81,8 @@ fn registers_text(alloc: Global, hart: &Hart) -> Result<Vec<u8>, AllocError>
 
 /// The first line about a run, a text about its jumps, and the registers.
 fn lines_with(alloc: Global, hart: &Hart, jumps: &[u8]) -> Result<Vec<u8>, AllocError>
-    ensures { IfOk result (λ text. (m : Memory) → text.items ≡ outcome_line (with_memory hart.now m) ++ jumps.now ++ register_lines (with_memory hart.now m).state 31) }
+    ensures { IfOk result (λ text. (m : Memory)
+        → text.items ≡ outcome_line (with_memory hart.now m) ++ jumps.now ++ register_lines (with_memory hart.now m).state 31) }
 {
     let mut text = outcome_text(alloc, hart)?.into_bytes();
     text.extend_from_slice(jumps)?;

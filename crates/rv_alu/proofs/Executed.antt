@@ -7,7 +7,7 @@ use Rattle.rv_isa.specs.declared.kind.Kind.{Kind}
 use Rattle.rv_isa.specs.declared.kind.Kind.TheVariants.{Jal, Jalr}
 use Rattle.machine.specs.Values.{holds}
 use Rattle.machine.specs.Step.{State, reg, next_pc, moved, jumped, execute, target, computed_value, Class, Ins, class_of, set_reg}
-use Rattle.rv_alu.specs.Steps.{following, linked, branched, landing, landed, IsComputing, IsBranching, IsJumping, IsPassing}
+use Rattle.rv_alu.specs.Steps.{following, linked, branched, jump_target, landed, IsComputing, IsBranching, IsJumping, IsPassing}
 
 -- a step by its class
 by_class : (c : Class) (i : Ins) (s : State) → class_of i.kind ≡ c → execute (class_of i.kind) i s ≡ execute c i s
@@ -27,7 +27,7 @@ jumped_aligned : (regs : List ℕ) (next : ℕ) (s : State) → next % 4 ≡ 0 �
 unfolding jumped
 jumped_aligned regs next s h = let b : (next % 4 == 0) ≡ true = eq-eqb _ _ h in rw b refl
 
--- a branch that is not taken goes to the next word, which is no target that could be off its grain
+-- a branch that is not taken goes to the next word, and that target is on its grain
 taken-or-not : (b : Bool) (regs : List ℕ) (t n : ℕ) (s : State) → n % 4 ≡ 0 → cond b (jumped regs t s) (moved regs n s) ≡ jumped regs (cond b t n) s
 taken-or-not true regs t n s h = refl
 taken-or-not false regs t n s h = sym (jumped_aligned regs n s h)
@@ -39,12 +39,12 @@ branching_step i regs pc next c n s e p g =
     ∙ rw (n, ← e, ← p) (taken-or-not (holds i.kind (reg s i.rs1) (reg s i.rs2)) s.regs (target i s.pc) (next_pc s) s (omega (arith, g, p)))
 
 -- the two kinds of jump
-jump_is : (k : Kind) (i : Ins) (s : State) → class_of k ≡ class.Jump → execute class.Jump i s ≡ jumped (linked i s.pc s.regs) (landing k i s.pc s.regs) s
+jump_is : (k : Kind) (i : Ins) (s : State) → class_of k ≡ class.Jump → execute class.Jump i s ≡ jumped (linked i s.pc s.regs) (jump_target k i s.pc s.regs) s
 unfolding execute
 jump_is Jal i s e = refl
 jump_is k i s e = absurd (cc)
 
-jump_reg_is : (k : Kind) (i : Ins) (s : State) → class_of k ≡ class.JumpReg → execute class.JumpReg i s ≡ jumped (linked i s.pc s.regs) (landing k i s.pc s.regs) s
+jump_reg_is : (k : Kind) (i : Ins) (s : State) → class_of k ≡ class.JumpReg → execute class.JumpReg i s ≡ jumped (linked i s.pc s.regs) (jump_target k i s.pc s.regs) s
 unfolding execute
 jump_reg_is Jalr i s e = refl
 jump_reg_is k i s e = absurd (cc)

@@ -15,8 +15,8 @@ abbrev pub computed : Ins → ℕ → List ℕ → List ℕ
 computed i pc regs = set_reg i.rd (computed_value i.kind i pc regs) regs
 
 -- the registers after an instruction that writes none
-abbrev pub same : Ins → ℕ → List ℕ → List ℕ
-same i pc regs = regs
+abbrev pub no_write : Ins → ℕ → List ℕ → List ℕ
+no_write i pc regs = regs
 
 -- the registers after a jump: rd has the address behind it
 abbrev pub linked : Ins → ℕ → List ℕ → List ℕ
@@ -27,13 +27,13 @@ abbrev pub branched : Ins → ℕ → List ℕ → ℕ
 branched i pc regs = cond (holds i.kind (slice_index regs i.rs1) (slice_index regs i.rs2)) (target i pc) ((pc + 4) % 2 ^ 64)
 
 -- where a jump goes: JALR to rs1 + immediate with bit 0 cleared, where rs1 is what it was before rd was written
-abbrev pub landing : Kind → Ins → ℕ → List ℕ → ℕ
-landing Jalr i pc regs = (slice_index regs i.rs1 + imm i) % 2 ^ 64 / 2 * 2
-landing _ i pc regs = target i pc
+abbrev pub jump_target : Kind → Ins → ℕ → List ℕ → ℕ
+jump_target Jalr i pc regs = (slice_index regs i.rs1 + imm i) % 2 ^ 64 / 2 * 2
+jump_target _ i pc regs = target i pc
 
--- the same of an instruction's own kind
+-- where a jump of the instruction's own kind goes
 abbrev pub landed : Ins → ℕ → List ℕ → ℕ
-landed i pc regs = landing i.kind i pc regs
+landed i pc regs = jump_target i.kind i pc regs
 
 -- ---- the classes of each operation
 abbrev pub IsComputing : Class → Type 0

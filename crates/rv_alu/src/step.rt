@@ -4,7 +4,7 @@ ghost use Rattle.rv_isa.specs.Kind.{class_of};
 ghost use Rattle.rv_isa.specs.declared.class.Class.TheVariants as class;
 ghost use Rattle.machine.specs.Table.{row_of};
 ghost use Rattle.machine.specs.Step.{State, imm, moved, jumped, execute, operand as operand_of, computed_value as computed_value_of, target as target_of};
-ghost use Rattle.rv_alu.specs.Steps.{following, computed, same, linked, branched, landed, IsComputing, IsBranching, IsJumping, IsPassing};
+ghost use Rattle.rv_alu.specs.Steps.{following, computed, no_write, linked, branched, landed, IsComputing, IsBranching, IsJumping, IsPassing};
 
 use crate::{compute, taken};
 use rv_isa::{Ins, Kind, Operation, Regs};
@@ -115,12 +115,12 @@ impl Operation for Computing {
 }
 
 impl Operation for Branching {
-    ghost use Rattle.rv_alu.specs.Steps.{same, branched, IsBranching};
+    ghost use Rattle.rv_alu.specs.Steps.{no_write, branched, IsBranching};
     ghost use Rattle.rv_alu.specs.Laws.{branching_frame, branching_sources, branching_mirror};
 
     ghost is_for = { IsBranching };
 
-    ghost registers = { same };
+    ghost registers = { no_write };
 
     ghost next = { branched };
 
@@ -129,7 +129,7 @@ impl Operation for Branching {
     #[tactic(auto, using(crate::proofs::Executed::branching_step))]
     fn act(&self, ins: &Ins, pc: u64, regs: &mut Regs) -> u64
         requires { IsBranching (class_of ins.now.kind) }
-        ensures registers { regs.new ≡ same ins.now pc regs.old }
+        ensures registers { regs.new ≡ no_write ins.now pc regs.old }
         ensures next { result ≡ branched ins.now pc regs.old }
 
         // This is a step of the machine at any pc that code may stand at.
@@ -182,12 +182,12 @@ impl Operation for Jumping {
 }
 
 impl Operation for Passing {
-    ghost use Rattle.rv_alu.specs.Steps.{same, following, IsPassing};
+    ghost use Rattle.rv_alu.specs.Steps.{no_write, following, IsPassing};
     ghost use Rattle.rv_alu.specs.Laws.{passing_frame, passing_sources, passing_mirror};
 
     ghost is_for = { IsPassing };
 
-    ghost registers = { same };
+    ghost registers = { no_write };
 
     ghost next = { following };
 
@@ -196,7 +196,7 @@ impl Operation for Passing {
     #[tactic(auto, using(crate::proofs::Executed::passing_step))]
     fn act(&self, ins: &Ins, pc: u64, regs: &mut Regs) -> u64
         requires { IsPassing (class_of ins.now.kind) }
-        ensures registers { regs.new ≡ same ins.now pc regs.old }
+        ensures registers { regs.new ≡ no_write ins.now pc regs.old }
         ensures next { result ≡ following ins.now pc regs.old }
 
         // This is a step of the machine.

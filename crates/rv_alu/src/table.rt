@@ -20,10 +20,10 @@ macro_rules! by_row {
     };
 }
 
-/// What an instruction of a computing kind writes to rd, by the listings of RV64I and of the M
-/// extension (RISC-V unprivileged manual). a is the number in rs1; b is the number in rs2, or the
-/// immediate modulo 2^64. Both are any numbers from 0 to 2^64 - 1. For a kind that does not
-/// compute it is 0, and so it is for LUI and AUIPC, whose values come of the immediate and the pc.
+/// What an instruction of a computing kind writes to rd, by the listings of RV64I and of the M extension (RISC-V
+/// unprivileged manual). a is the number in rs1; b is that in rs2, or the immediate modulo 2^64. Both are any numbers
+/// from 0 to 2^64 - 1. It is 0 for a kind that does not compute, and for LUI and AUIPC. Their values come from the
+/// immediate and the pc.
 #[tactic(auto, unfolding(machine::specs::Values::value))]
 pub fn compute(kind: Kind, a: u64, b: u64) -> u64
     ensures { result ≡ value kind a b }
@@ -31,8 +31,8 @@ pub fn compute(kind: Kind, a: u64, b: u64) -> u64
     rows!(immediate shift register word multiply => by_row kind a b 0)
 }
 
-/// Whether a branch is taken, a being the number in rs1 and b the number in rs2 (RISC-V
-/// unprivileged manual, "Conditional Branches"). For a kind that is no branch it is false.
+/// Whether a branch is taken, a being the number in rs1 and b the number in rs2 (RISC-V unprivileged manual,
+/// "Conditional Branches"). For any other kind it is false.
 #[tactic(auto, unfolding(machine::specs::Values::holds))]
 pub fn taken(kind: Kind, a: u64, b: u64) -> bool
     ensures { result ≡ holds kind a b }

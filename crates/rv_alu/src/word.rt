@@ -72,7 +72,7 @@ pub(crate) fn divw(a: u64, b: u64) -> u64
     extended(div(extended(a), extended(b)))
 }
 
-/// Its remainder, as `rem`.
+/// The signed remainder, as `rem`.
 pub(crate) fn remw(a: u64, b: u64) -> u64
     ensures { result ≡ word (remainder (s32 a) (s32 b)) }
 {
@@ -86,7 +86,7 @@ pub(crate) fn divuw(a: u64, b: u64) -> u64
     extended(divu(unsigned(a), unsigned(b)))
 }
 
-/// Its remainder, as `remu`.
+/// The remainder without signs, as `remu`.
 pub(crate) fn remuw(a: u64, b: u64) -> u64
     ensures { result ≡ word (remainder (pos (low_word a)) (pos (low_word b))) }
 {

@@ -7,7 +7,7 @@ use Rattle.rv_asm.specs.declared.error.AsmError.{AsmError}
 use Rattle.rv_asm.specs.declared.error.AsmError.TheVariants as error
 use Rattle.rv_asm.specs.declared.error.Fault.{Fault}
 use Rattle.rv_asm.specs.declared.given.Given.{Given}
-use Rattle.rv_asm.specs.Assembled.{Assembled, IsFirstFault, HasNoCode, IsRefused, AreFaultless, code_of, given_at}
+use Rattle.rv_asm.specs.Assembled.{Assembled, IsFirstFault, HasNoCode, IsTextRefused, AreFaultless, code_of_lines, given_at}
 use Rattle.rv_asm.specs.Counted.{IsAssembly}
 use Rattle.rv_asm.specs.Exact.{file_in, IsExact}
 use Rattle.rv_asm.specs.Lines.{lines_of}
@@ -19,7 +19,7 @@ not_ok (Err other) fault is e = absurd (cc)
 same_fault : (given : Result Given Fault) (f g : Fault) → given ≡ Err f → given ≡ Err g → f ≡ g
 same_fault given f g d e = cc
 
--- no line before a number is at fault, so that of the fault is no smaller
+-- no line before a number is at fault, so that of the fault is at least that number
 before_fault : (text : List ℕ) (fault : Fault) (m n : ℕ) → AreFaultless (lines_of text) m → IsFirstFault text fault n → n - 1 < m → ⊥
 before_fault text fault m n free x less = not_ok (given_at (lines_of text) (n - 1)) fault (free (n - 1) less) x.found
 
@@ -28,7 +28,7 @@ faultless text fault n free x = before_fault text fault (length (lines_of text))
 
 pub some_code : (text bytes : List ℕ) → Assembled text bytes → HasNoCode text → ⊥
 some_code text bytes a x =
-    let none : length (code_of (lines_of text) (length (lines_of text))) ≡ 0 = ap length x.none in
+    let none : length (code_of_lines (lines_of text) (length (lines_of text))) ≡ 0 = ap length x.none in
     absurd (omega (arith, a.code, none))
 
 one_fault : (text : List ℕ) (f g : Fault) (m n : ℕ) → IsFirstFault text f m → IsFirstFault text g n → error.Line f m ≡ error.Line g n
@@ -42,7 +42,7 @@ one_fault text f g m n x y = by (cases_order (m - 1) (n - 1)) where
   by (inr (inr less)) = absurd (before_fault text g (m - 1) n x.before y less)
 
 pub exact_of :
-    (text : List ℕ) (r : Result (List ℕ) AsmError) → MatchResult r (λ bytes. Assembled text bytes) (λ e. IsRefused text e)
+    (text : List ℕ) (r : Result (List ℕ) AsmError) → MatchResult r (λ bytes. Assembled text bytes) (λ e. IsTextRefused text e)
     → IsExact text r
 exact_of text (Ok bytes) a = record {
   assembled = λ other b. inl (ap Ok (a.file ∙ sym b.file));
@@ -62,7 +62,7 @@ exact_of text (Err error.NoCode) x = record {
 exact_of text (Err error.Memory) x = record { assembled = λ bytes a. inr refl; refused = λ g m y. inr refl; no_code = λ y. inr refl }
 
 pub counted_exact :
-    (text : List ℕ) (r : Result Assembly AsmError) → MatchResult r (λ made. IsAssembly text made) (λ e. IsRefused text e)
+    (text : List ℕ) (r : Result Assembly AsmError) → MatchResult r (λ made. IsAssembly text made) (λ e. IsTextRefused text e)
     → IsExact text (file_in r)
 counted_exact text (Ok made) h = exact_of text (Ok made.file) h.file
 counted_exact text (Err e) h = exact_of text (Err e) h

@@ -21,7 +21,7 @@ use Rattle.rv_asm.specs.declared.place.Place.{Place}
 use Rattle.rv_asm.specs.Lines.{is_blank, hash, trim_start, trim_end, trim, front_of, statement, word_end, leading_word, is_name, name_before, label_in}
 use Rattle.rv_asm.specs.Heads.{named_head, head_of}
 use Rattle.rv_asm.specs.Given.{max_code, max_data, in_code, in_data, label_given, is_defined_before, given_by}
-use Rattle.rv_asm.specs.Assembled.{head_in, gives_code, gives_data, place_behind, line_at, given_at, code_in, data_in, symbol_in, symbol_at, code_of, data_of}
+use Rattle.rv_asm.specs.Assembled.{head_in, gives_code, gives_data, place_behind, line_at, given_at, code_given, data_given, symbol_in, symbol_at, code_of_lines, data_of}
 use Rattle.rv_asm.specs.Steps.{one_if, code_step, data_step, next_place}
 use Rattle.rv_asm.proofs.Places.{place_push}
 use Rattle.rv_asm.proofs.Room.{cost, IsCheap}
@@ -111,7 +111,7 @@ one_added x count step most one less = record { grows = omega arith; room = λ s
 
 code_added :
     (r : Result Given Fault) (p : Place) (h : Head) → ((g : Given) → r ≡ Ok g → IsFrom h p g)
-    → IsAdded (code_in r) p.code_words (p.code_words + code_step p.in_data h) max_code
+    → IsAdded (code_given r) p.code_words (p.code_words + code_step p.in_data h) max_code
 code_added (Ok (given.Code x)) p h is =
     let f = is (given.Code x) refl in
     one_added x p.code_words (code_step p.in_data h) max_code (ap (λ t. code_step t h) f.1 ∙ ap one_if f.0) f.2
@@ -119,7 +119,7 @@ code_added _ p h is = none_added p.code_words (code_step p.in_data h) max_code
 
 data_added :
     (r : Result Given Fault) (p : Place) (h : Head) → ((g : Given) → r ≡ Ok g → IsFrom h p g)
-    → IsAdded (data_in r) p.data_words (p.data_words + data_step p.in_data h) max_data
+    → IsAdded (data_given r) p.data_words (p.data_words + data_step p.in_data h) max_data
 data_added (Ok (given.Data x)) p h is =
     let f = is (given.Data x) refl in
     one_added x p.data_words (data_step p.in_data h) max_data (ap (λ t. data_step t h) f.1 ∙ ap one_if f.0) f.2
@@ -158,13 +158,13 @@ few_lines lines words count most each =
     let added = λ (i : ℕ). each (given_at lines i) (at i) (head_in (line_at lines i)) (given_is lines i) in
     (few_words here (λ i. count (at i)) most (length lines) (λ i less. subst (λ p. IsAdded (here i) (count (at i)) (count p) most) (sym (next_at lines i less)) (added i))).1
 
-pub few_code : (lines : List (List ℕ)) → length (code_of lines (length lines)) ≤ 16384
-unfolding code_of
-few_code lines = few_lines lines code_in (λ p. p.code_words) max_code code_added
+pub few_code : (lines : List (List ℕ)) → length (code_of_lines lines (length lines)) ≤ 16384
+unfolding code_of_lines
+few_code lines = few_lines lines code_given (λ p. p.code_words) max_code code_added
 
 pub few_data : (lines : List (List ℕ)) → length (data_of lines (length lines)) ≤ 131072
 unfolding data_of
-few_data lines = few_lines lines data_in (λ p. p.data_words) max_data data_added
+few_data lines = few_lines lines data_given (λ p. p.data_words) max_data data_added
 
 -- ---- labels
 head_cases : (a b c d e : Bool) (o : Option Kind) → cond a Blank (cond b Label (cond c Word (cond d DataStart (cond e DataWord (named_head o))))) ≡ Label → b ≡ true

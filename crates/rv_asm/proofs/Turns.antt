@@ -26,7 +26,7 @@ use Rattle.rv_asm.specs.declared.place.Place.{Place}
 use Rattle.rv_asm.specs.Lines.{newline, lines_of, leading_word, rest_in, label_in}
 use Rattle.rv_asm.specs.Heads.{head_of}
 use Rattle.rv_asm.specs.Given.{address_at, given_by}
-use Rattle.rv_asm.specs.Assembled.{head_in, place_behind, is_same, defines, label_at, label_of, line_at, given_at, code_in, data_in, symbol_in, symbol_at, code_of, data_of, symbols_of, AreFaultless, IsFirstFault}
+use Rattle.rv_asm.specs.Assembled.{head_in, place_behind, is_same_label, defines, label_at, label_of, line_at, given_at, code_given, data_given, symbol_in, symbol_at, code_of_lines, data_of, symbols_of, AreFaultless, IsFirstFault}
 use Rattle.rv_asm.specs.Steps.{next_place}
 use Rattle.rv_asm.specs.declared.program.Program.{Program}
 use Rattle.rv_asm.specs.Program.{IsSoFar}
@@ -66,14 +66,14 @@ lines_end g text made start now next f xs r y is step gives rest done closure te
     (YieldsList-end (YieldsList-from_slice_split g (λ b. b == newline) text (ap slice.split_rest gives ∙ rest) (ap slice.split_done gives ∙ done) (ap slice.split_callee gives ∙ closure) tests) xs now y r next is step).1
 
 -- ---- before a line
--- so many lines were counted, and the place is behind them
+-- n lines were counted, and the place is behind them
 pub record IsBefore (text : List ℕ) (n number : ℕ) (p : Place) : Type 0 where
   pub counted : number ≡ n
   pub placed : p ≡ place_behind (take n (lines_of text))
   pub code_near : p.code_words < 2 ^ 32
   pub values_near : p.data_words < 2 ^ 32
 
--- and behind it
+-- behind the next line one more is counted
 pub before_next :
     (text : List ℕ) (n m number : ℕ) (line : List ℕ) (p next : Place) (h : Head) → length text ≤ 67108864 → IsTurn (lines_of text) n line → n + 1 ≡ m → IsBefore text n number p
     → h ≡ head_in line → next ≡ next_place p h → IsBefore text m (number + 1) next
@@ -98,12 +98,12 @@ labelled address number = record { address = address; line = number }
 
 pub turn_labels :
     (lines : List (List ℕ)) (n : ℕ) (line : List ℕ) (old new : Option Label) (q : List ℕ) (label : Label) → IsTurn lines n line
-    → new ≡ option_or old (cond (is_same q (label_in (leading_word line))) (Some label) None) → label ≡ label_at lines n → old ≡ option_map (label_at lines) (position_from (defines q) 0 (take n lines))
+    → new ≡ option_or old (cond (is_same_label q (label_in (leading_word line))) (Some label) None) → label ≡ label_at lines n → old ≡ option_map (label_at lines) (position_from (defines q) 0 (take n lines))
     → new ≡ option_map (label_at lines) (position_from (defines q) 0 (take (n + 1) lines))
 turn_labels lines n line old new q label t e k so_far =
     let f = label_at lines in
     let one = ap (λ (x : List ℕ). cond (defines q x) (Some label) None) t.is ∙ ap (λ (x : Label). cond (defines q (line_at lines n)) (Some x) None) (k ∙ ap f (sym (length-take-le n lines (omega (arith, t.inside))))) in
-    e ∙ (ap (λ o. option_or o (cond (is_same q (label_in (leading_word line))) (Some label) None)) so_far
+    e ∙ (ap (λ o. option_or o (cond (is_same_label q (label_in (leading_word line))) (Some label) None)) so_far
     ∙ (ap (option_or (option_map f (position_from (defines q) 0 (take n lines)))) one
     ∙ (sym (first_push f (defines q) (take n lines) (line_at lines n)) ∙ ap (λ ls. option_map f (position_from (defines q) 0 ls)) (sym (take_more lines n [] t.inside)))))
 
@@ -143,15 +143,15 @@ first_fault text n number line f t e so_far g =
 -- ---- all lines so far
 pub so_far_more :
     (lines : List (List ℕ)) (n m : ℕ) (line : List ℕ) (p : Place) (w : List ℕ) (g : Given) (old new : Program) → IsTurn lines n line → n + 1 ≡ m → p ≡ place_behind (take n lines) → w ≡ leading_word line
-    → given_at lines n ≡ Ok g → IsSoFar lines n old → new.code.items ≡ old.code.items ++ code_in (Ok g) → new.values.items ≡ old.values.items ++ data_in (Ok g)
+    → given_at lines n ≡ Ok g → IsSoFar lines n old → new.code.items ≡ old.code.items ++ code_given (Ok g) → new.values.items ≡ old.values.items ++ data_given (Ok g)
     → new.symbols.items ≡ old.symbols.items ++ symbol_in w (address_at p) (Ok g) → IsSoFar lines m new
-unfolding code_of data_of symbols_of
+unfolding code_of_lines data_of symbols_of
 so_far_more lines n m line p w g old new t one placed word is so_far c v s =
     let here = word ∙ ap leading_word t.is in
     let symbol_here = ap (λ x. symbol_in x (address_at p) (Ok g)) here ∙ (ap (λ q. symbol_in (leading_word (line_at lines n)) (address_at q) (Ok g)) placed ∙ ap (symbol_in (leading_word (line_at lines n)) (address_at (place_behind (take n lines)))) (sym is)) in
     subst (λ k. IsSoFar lines k new) one (record {
       faultless = faultless_more lines n g so_far.faultless is;
-      code = gather_more n (λ i. code_in (given_at lines i)) old.code.items new.code.items (c ∙ ap (λ r. old.code.items ++ code_in r) (sym is)) so_far.code;
-      words = gather_more n (λ i. data_in (given_at lines i)) old.values.items new.values.items (v ∙ ap (λ r. old.values.items ++ data_in r) (sym is)) so_far.words;
+      code = gather_more n (λ i. code_given (given_at lines i)) old.code.items new.code.items (c ∙ ap (λ r. old.code.items ++ code_given r) (sym is)) so_far.code;
+      words = gather_more n (λ i. data_given (given_at lines i)) old.values.items new.values.items (v ∙ ap (λ r. old.values.items ++ data_given r) (sym is)) so_far.words;
       symbols = gather_more n (λ i. symbol_at lines i) old.symbols.items new.symbols.items (s ∙ ap (λ (x : List Symbol). old.symbols.items ++ x) symbol_here) so_far.symbols;
     })

@@ -15,7 +15,7 @@ use Rattle.machine.proofs.Lemmas.{pairs_all, every_all}
 use Rattle.elf_write.proofs.PlainFits.{loadable, offset_room, inside_itself, placed, upper}
 use Rattle.elf_write.proofs.Sizes.{length-section_names}
 use Rattle.rv_asm.specs.Lines.{begins_name, continues_name, is_name}
-use Rattle.rv_asm.specs.Assembled.{values_bytes, code_segment, data_segment, segments, code_section, data_section, sections, file_from, file_with}
+use Rattle.rv_asm.specs.Assembled.{values_bytes, text_segment, text_data_segment, segments, code_section, data_section, sections, file_from, file_of_given}
 use Rattle.rv_asm.proofs.Room.{cost, cost_is}
 use Rattle.rv_asm.proofs.Sound.{IsLabelSymbol}
 
@@ -51,9 +51,9 @@ record ArePlain (ss : List Segment) (xs : List OutSection) : Type 0 where
   short : length (names_bytes (map (λ x. x.name) xs)) ≤ 13
   ends : end_from (64 + 56 * length ss) ss ≤ 2000000
 
-one_plain : (code : List ℕ) → length code ≤ 16384 → ArePlain (code_segment code ∷ []) (code_section code ∷ [])
+one_plain : (code : List ℕ) → length code ≤ 16384 → ArePlain (text_segment code ∷ []) (code_section code ∷ [])
 one_plain code h =
-    let s = code_segment code in
+    let s = text_segment code in
     let size = length-bytes_of code in
     record {
       loads = every_all IsLoadable (s ∷ []) (loadable 5 0x10000 (bytes_of code) (omega arith), tt);
@@ -68,10 +68,10 @@ one_plain code h =
       ends = omega (arith, size, offset_room 120 0x10000);
     }
 
-two_plain : (code values : List ℕ) → length code ≤ 16384 → length values ≤ 131072 → ArePlain (code_segment code ∷ data_segment values ∷ []) (code_section code ∷ data_section values ∷ [])
+two_plain : (code values : List ℕ) → length code ≤ 16384 → length values ≤ 131072 → ArePlain (text_segment code ∷ text_data_segment values ∷ []) (code_section code ∷ data_section values ∷ [])
 two_plain code values h k =
-    let s = code_segment code in
-    let t = data_segment values in
+    let s = text_segment code in
+    let t = text_data_segment values in
     let size = length-bytes_of code in
     let data_size = length-values_bytes values in
     record {
@@ -92,7 +92,7 @@ two_plain code values h k =
 
 plain : (code values : List ℕ) → length code ≤ 16384 → length values ≤ 131072 → ArePlain (segments code values) (sections code values)
 plain code values h k =
-    elim (length values == 0) as (λ b. ArePlain (cond b (code_segment code ∷ []) (code_segment code ∷ data_segment values ∷ [])) (cond b (code_section code ∷ []) (code_section code ∷ data_section values ∷ [])))
+    elim (length values == 0) as (λ b. ArePlain (cond b (text_segment code ∷ []) (text_segment code ∷ text_data_segment values ∷ [])) (cond b (code_section code ∷ []) (code_section code ∷ data_section values ∷ [])))
     [ true ↦ one_plain code h | false ↦ two_plain code values h k ]
 
 -- ---- the file
@@ -121,6 +121,6 @@ plain_writable ss xs symbols p all h =
       size = size_small;
     }
 
-pub writable : (code values : List ℕ) (symbols : List Symbol) → length code ≤ 16384 → length values ≤ 131072 → All IsLabelSymbol symbols → cost symbols ≤ 603979785 → IsWritable (file_with code values symbols)
-unfolding file_with
+pub writable : (code values : List ℕ) (symbols : List Symbol) → length code ≤ 16384 → length values ≤ 131072 → All IsLabelSymbol symbols → cost symbols ≤ 603979785 → IsWritable (file_of_given code values symbols)
+unfolding file_of_given
 writable code values symbols h k all c = plain_writable (segments code values) (sections code values) symbols (plain code values h k) all c

@@ -1,5 +1,6 @@
 -- What a text assembles to: the words, data and labels of its lines, each line on its own but for the labels.
-use Rattle.std.specs.Prelude.{◌≡◌, ℕ, ◌+◌, ◌-◌, ◌<◌, ◌≤◌, ◌==◌, ◌++◌, Bool, true, false, is_ok, if◌then◌else◌, Option, Some, None, option_map, unwrap_or, Result, Ok, Err, List, [], ◌∷◌, length, take, slice_index_or, count_by, codes}
+use Rattle.std.specs.Prelude.{◌≡◌, ℕ, ◌+◌, ◌-◌, ◌<◌, ◌≤◌, ◌==◌, ◌++◌, Bool, true, false, is_ok, if◌then◌else◌, Option, Some, None, option_map, unwrap_or}
+use Rattle.std.specs.Prelude.{Result, Ok, Err, List, [], ◌∷◌, length, take, slice_index_or, count_by, codes}
 use Rattle.std.specs.Str.{bytes_eq}
 use Rattle.std.specs.List.{position_from}
 use Rattle.elf_types.specs.declared.file.Segment.{Segment}
@@ -61,13 +62,13 @@ unfoldable pub place_behind : List (List ℕ) → Place
 place_behind lines = record { in_data = has_data_start lines; code_words = code_count lines; data_words = data_count lines }
 
 -- ---- labels
-abbrev pub is_same : List ℕ → Option (List ℕ) → Bool
-is_same name None = false
-is_same name (Some other) = bytes_eq name other
+abbrev pub is_same_label : List ℕ → Option (List ℕ) → Bool
+is_same_label name None = false
+is_same_label name (Some other) = bytes_eq name other
 
 -- the line's first word defines the label
 abbrev pub defines : List ℕ → List ℕ → Bool
-defines name line = is_same name (label_in (leading_word line))
+defines name line = is_same_label name (label_in (leading_word line))
 
 -- a label that line n defines: its address is that of the place of the line
 unfoldable pub label_at : List (List ℕ) → ℕ → Label
@@ -88,13 +89,13 @@ given_in lines n line = given_by (label_of lines) (place_behind (take n lines)) 
 unfoldable pub given_at : List (List ℕ) → ℕ → Result Given Fault
 given_at lines n = given_in lines n (line_at lines n)
 
-abbrev pub code_in : Result Given Fault → List ℕ
-code_in (Ok (given.Code word)) = word ∷ []
-code_in _ = []
+abbrev pub code_given : Result Given Fault → List ℕ
+code_given (Ok (given.Code word)) = word ∷ []
+code_given _ = []
 
-abbrev pub data_in : Result Given Fault → List ℕ
-data_in (Ok (given.Data value)) = value ∷ []
-data_in _ = []
+abbrev pub data_given : Result Given Fault → List ℕ
+data_given (Ok (given.Data value)) = value ∷ []
+data_given _ = []
 
 -- LOCAL, of type NOTYPE, with an absolute value
 abbrev pub symbol : List ℕ → ℕ → Symbol
@@ -109,36 +110,36 @@ abbrev pub symbol_at : List (List ℕ) → ℕ → List Symbol
 symbol_at lines n = symbol_in (leading_word (line_at lines n)) (address_at (place_behind (take n lines))) (given_at lines n)
 
 -- the code words, the data words and the labels of the first n lines
-unfoldable pub code_of : List (List ℕ) → ℕ → List ℕ
-code_of lines n = gather n (λ i. code_in (given_at lines i))
+unfoldable pub code_of_lines : List (List ℕ) → ℕ → List ℕ
+code_of_lines lines n = gather n (λ i. code_given (given_at lines i))
 
 unfoldable pub data_of : List (List ℕ) → ℕ → List ℕ
-data_of lines n = gather n (λ i. data_in (given_at lines i))
+data_of lines n = gather n (λ i. data_given (given_at lines i))
 
 unfoldable pub symbols_of : List (List ℕ) → ℕ → List Symbol
 symbols_of lines n = gather n (λ i. symbol_at lines i)
 
 -- ---- the file
-abbrev pub code_segment : List ℕ → Segment
-code_segment code = segment (PF_R + PF_X) 0x10000 (bytes_of code)
+abbrev pub text_segment : List ℕ → Segment
+text_segment code = segment (PF_R + PF_X) 0x10000 (bytes_of code)
 
 -- data words have 8 bytes
 abbrev pub values_bytes : List ℕ → List ℕ
 values_bytes [] = []
 values_bytes (value ∷ values) = number_bytes 8 value ++ values_bytes values
 
-abbrev pub data_segment : List ℕ → Segment
-data_segment values = segment (PF_R + PF_W) 0x20000 (values_bytes values)
+abbrev pub text_data_segment : List ℕ → Segment
+text_data_segment values = segment (PF_R + PF_W) 0x20000 (values_bytes values)
 
 -- the data have one where there is data
 abbrev pub segments : List ℕ → List ℕ → List Segment
-segments code values = if length values == 0 then code_segment code ∷ [] else code_segment code ∷ data_segment values ∷ []
+segments code values = if length values == 0 then text_segment code ∷ [] else text_segment code ∷ text_data_segment values ∷ []
 
 abbrev pub code_section : List ℕ → OutSection
-code_section code = section (codes ".text") (SHF_ALLOC + SHF_EXECINSTR) (code_segment code)
+code_section code = section (codes ".text") (SHF_ALLOC + SHF_EXECINSTR) (text_segment code)
 
 abbrev pub data_section : List ℕ → OutSection
-data_section values = section (codes ".data") (SHF_ALLOC + SHF_WRITE) (data_segment values)
+data_section values = section (codes ".data") (SHF_ALLOC + SHF_WRITE) (text_data_segment values)
 
 abbrev pub sections : List ℕ → List ℕ → List OutSection
 sections code values = if length values == 0 then code_section code ∷ [] else code_section code ∷ data_section values ∷ []
@@ -148,8 +149,8 @@ abbrev pub file_from : List Segment → List OutSection → List Symbol → OutF
 file_from segments sections symbols = record { entry = 0x10000; flags = 0; segments = segments; sections = sections; symbols = symbols }
 
 -- the file of code words, data words and labels
-unfoldable pub file_with : List ℕ → List ℕ → List Symbol → OutFile
-file_with code values symbols = file_from (segments code values) (sections code values) symbols
+unfoldable pub file_of_given : List ℕ → List ℕ → List Symbol → OutFile
+file_of_given code values symbols = file_from (segments code values) (sections code values) symbols
 
 -- ---- the whole
 -- no line is at fault
@@ -157,14 +158,14 @@ abbrev pub AreFaultless : List (List ℕ) → ℕ → Type 0
 AreFaultless lines n = (i : ℕ) → i < n → is_ok (given_at lines i) ≡ true
 
 -- the file that lines describe
-unfoldable pub file_of : List (List ℕ) → OutFile
-file_of lines = file_with (code_of lines (length lines)) (data_of lines (length lines)) (symbols_of lines (length lines))
+unfoldable pub file_of_lines : List (List ℕ) → OutFile
+file_of_lines lines = file_of_given (code_of_lines lines (length lines)) (data_of lines (length lines)) (symbols_of lines (length lines))
 
 -- no line is at fault, a line gives a code word, and the bytes are the file's
 pub record Assembled (text bytes : List ℕ) : Type 0 where
   pub faultless : AreFaultless (lines_of text) (length (lines_of text))
-  pub code : 0 < length (code_of (lines_of text) (length (lines_of text)))
-  pub file : bytes ≡ written (file_of (lines_of text))
+  pub code : 0 < length (code_of_lines (lines_of text) (length (lines_of text)))
+  pub file : bytes ≡ written (file_of_lines (lines_of text))
 
 -- the first line at fault is line n, from 1, and this is the first fault on it
 pub record IsFirstFault (text : List ℕ) (fault : Fault) (n : ℕ) : Type 0 where
@@ -176,10 +177,10 @@ pub record IsFirstFault (text : List ℕ) (fault : Fault) (n : ℕ) : Type 0 whe
 -- no line is at fault, and none gives a code word
 pub record HasNoCode (text : List ℕ) : Type 0 where
   pub faultless : AreFaultless (lines_of text) (length (lines_of text))
-  pub none : code_of (lines_of text) (length (lines_of text)) ≡ []
+  pub none : code_of_lines (lines_of text) (length (lines_of text)) ≡ []
 
 -- why a text is not assembled; want of memory says nothing
-abbrev pub IsRefused : List ℕ → AsmError → Type 0
-IsRefused text (Line fault n) = IsFirstFault text fault n
-IsRefused text NoCode = HasNoCode text
-IsRefused text Memory = Unit {0}
+abbrev pub IsTextRefused : List ℕ → AsmError → Type 0
+IsTextRefused text (Line fault n) = IsFirstFault text fault n
+IsTextRefused text NoCode = HasNoCode text
+IsTextRefused text Memory = Unit {0}

@@ -11,11 +11,11 @@ abbrev pub file_in : Result Assembly AsmError → Result (List ℕ) AsmError
 file_in (Ok made) = Ok made.file
 file_in (Err e) = Err e
 
--- this is answered, or Memory in its place
+-- the wanted answer, or Memory in its place
 abbrev pub IsOrMemory : Result (List ℕ) AsmError → Result (List ℕ) AsmError → Type 0
 IsOrMemory wanted answer = (answer ≡ wanted) ⊎ (answer ≡ Err Memory)
 
--- a text that assembles to a file gives it, a text with a fault gives the first one and its line, and a text without code gives that
+-- a text that assembles gives its file, a text with a fault the first one and its line, and one without code says so
 pub record IsExact (text : List ℕ) (answer : Result (List ℕ) AsmError) : Type 0 where
   pub assembled : (bytes : List ℕ) → Assembled text bytes → IsOrMemory (Ok bytes) answer
   pub refused : (fault : Fault) (n : ℕ) → IsFirstFault text fault n → IsOrMemory (Err (Line fault n)) answer

@@ -1,7 +1,7 @@
 -- What a line gives, in its place.
 use Rattle.std.specs.Prelude.{ℕ, ◌+◌, ◌*◌, ◌==◌, nat_lt, Bool, true, false, if◌then◌else◌, Option, Some, None, unwrap_or, Result, Ok, Err, List, [], length}
 use Rattle.std.specs.Option.{ok_or}
-use Rattle.texts.specs.Read.{number}
+use Rattle.texts.specs.Read.{parsed_number}
 use Rattle.rv_asm.specs.declared.error.Fault.{Fault}
 use Rattle.rv_asm.specs.declared.error.Fault.TheVariants.{Unrecognized, IllegalOperands, RedefinedLabel, SectionFull}
 use Rattle.rv_asm.specs.declared.given.Given.{Given}
@@ -55,12 +55,12 @@ abbrev pub label_given : Bool → Result Given Fault
 label_given true = Err RedefinedLabel
 label_given false = Ok given.Label
 
--- what line n (from 0) at a place gives, of its first word and what follows it, or the first fault on it; `labels` has the first definition of each label
+-- what line n (from 0) at a place gives, by its words, or its first fault; `labels` has each label's first definition
 unfoldable pub given_by : (List ℕ → Option LabelAt) → Place → ℕ → Head → List ℕ → List ℕ → Result Given Fault
 given_by labels p n Blank word rest = Ok given.Nothing
 given_by labels p n (Instruction kind) word rest = in_code p (assembled_word labels (address_at p) kind rest)
 given_by labels p n Word word rest = in_code p (ok_or (raw_word_in rest) IllegalOperands)
 given_by labels p n DataStart word rest = alone rest (Ok given.Nothing)
-given_by labels p n DataWord word rest = in_data p (number rest)
+given_by labels p n DataWord word rest = in_data p (parsed_number rest)
 given_by labels p n Label word rest = alone rest (label_given (is_defined_before n (labels (unwrap_or (label_in word) []))))
 given_by labels p n Unknown word rest = Err Unrecognized

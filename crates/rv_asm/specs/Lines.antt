@@ -89,11 +89,11 @@ label_in word = name_before (parted colon word)
 
 -- ---- parts between commas
 -- the parts before and behind the first comma
-abbrev pub trimmed : List ℕ × List ℕ → List ℕ × List ℕ
-trimmed parts = (trim parts.0, trim parts.1)
+abbrev pub trimmed_halves : List ℕ × List ℕ → List ℕ × List ℕ
+trimmed_halves parts = (trim parts.0, trim parts.1)
 
 unfoldable pub pair_in : List ℕ → Option (List ℕ × List ℕ)
-pair_in text = option_map trimmed (parted comma text)
+pair_in text = option_map trimmed_halves (parted comma text)
 
 abbrev pub triple_with : List ℕ → Option (List ℕ × List ℕ) → Option (List ℕ × List ℕ × List ℕ)
 triple_with first None = None

@@ -5,5 +5,5 @@ use Rattle.std.specs.Str.{bytes_eq}
 use Rattle.rv_asm.specs.declared.labels.Label.{Label}
 use Rattle.rv_asm.specs.declared.labels.Labels.{Labels}
 
-abbrev pub named : Labels → List ℕ → Option Label
-named labels name = get_by (λ k. bytes_eq name k.now) labels.by_name
+abbrev pub label_named : Labels → List ℕ → Option Label
+label_named labels name = get_by (λ k. bytes_eq name k.now) labels.by_name

@@ -1,9 +1,10 @@
 -- The operands of instructions, and the word of an instruction that is written.
-use Rattle.std.specs.Prelude.{ℕ, ◌*◌, ◌^◌, ◌==◌, ◌&&◌, nat_lt, if◌then◌else◌, Option, Some, None, option_map, Result, Ok, Err, List, [], ◌∷◌, length, codes, ℤ, pos, negsuc, ◌-ℤ◌, neg_ℤ}
+use Rattle.std.specs.Prelude.{ℕ, ◌*◌, ◌^◌, ◌==◌, ◌&&◌, nat_lt, if◌then◌else◌, Option, Some, None, option_map, Result, Ok, Err, List, [], ◌∷◌, length, codes}
+use Rattle.std.specs.Prelude.{ℤ, pos, negsuc, ◌-ℤ◌, neg_ℤ}
 use Rattle.std.specs.Option.{ok_or}
 use Rattle.std.specs.Str.{bytes_eq}
 use Rattle.machine.specs.Table.{ins, signed, encode_of, Kind}
-use Rattle.texts.specs.Read.{dash, digit_zero, letter_x, digits, number, register}
+use Rattle.texts.specs.Read.{dash, digit_zero, letter_x, digits, parsed_number, register}
 use Rattle.rv_text.specs.declared.forms.Form.{Form}
 use Rattle.rv_text.specs.declared.forms.Form.TheVariants.{Registers, Immediate, Load, Store, Branch, Upper, Jump, Bare}
 use Rattle.rv_text.specs.Forms.{text_form}
@@ -22,7 +23,7 @@ register_in (c ∷ cs) = if c == letter_x then (if bytes_eq cs (codes "0") then 
 -- a number, with `-` in front or without
 unfoldable pub immediate_in : List ℕ → Option ℤ
 immediate_in [] = None
-immediate_in (c ∷ cs) = if c == dash then option_map (λ n. neg_ℤ (pos n)) (number cs) else option_map pos (number (c ∷ cs))
+immediate_in (c ∷ cs) = if c == dash then option_map (λ n. neg_ℤ (pos n)) (parsed_number cs) else option_map pos (parsed_number (c ∷ cs))
 
 -- `0x` and 8 hexadecimal digits
 unfoldable pub raw_word_in : List ℕ → Option ℕ

@@ -1,6 +1,6 @@
 //! From text to a file.
 ghost use Rattle.std.specs.Prelude.{◌≤◌, MatchResult, length};
-ghost use Rattle.rv_asm.specs.Assembled.{Assembled, IsRefused};
+ghost use Rattle.rv_asm.specs.Assembled.{Assembled, IsTextRefused};
 ghost use Rattle.rv_asm.specs.Counted.{IsAssembly};
 ghost use Rattle.rv_asm.specs.Exact.{IsExact, file_in};
 
@@ -23,7 +23,7 @@ pub struct Assembly {
 /// The file and its numbers, or why there is none.
 fn assembled(alloc: Global, text: &[u8]) -> Result<Assembly, AsmError>
     requires { length text.now ≤ 67108864 }
-    ensures { MatchResult result (λ made. IsAssembly text.now made) (λ e. IsRefused text.now e) }
+    ensures { MatchResult result (λ made. IsAssembly text.now made) (λ e. IsTextRefused text.now e) }
 {
     let program = program_of(alloc, text)?;
     if program.code.is_empty() {
@@ -40,14 +40,14 @@ fn assembled(alloc: Global, text: &[u8]) -> Result<Assembly, AsmError>
     })
 }
 
-/// The executable that a text describes: its code at 0x10000 with the section `.text`, its data, where there is any, at
-/// 0x20000 with the section `.data`, and its labels as local symbols; with the numbers of its words. The text has at most
-/// 67,108,864 bytes.
+/// The executable that a text describes, with the numbers of its words. Its code is at 0x10000 with the section
+/// `.text`. Its data, if there is any, is at 0x20000 with the section `.data`, and its labels are local symbols. The
+/// text has at most 67,108,864 bytes.
 ///
-/// An error tells the first line at fault, or that no line gives an instruction, or that there is no memory.
+/// An error reports the first line at fault, a text without instructions, or want of memory.
 pub fn assemble_counted(alloc: Global, text: &[u8]) -> Result<Assembly, AsmError>
     requires { length text.now ≤ 67108864 }
-    ensures answer { MatchResult result (λ made. IsAssembly text.now made) (λ e. IsRefused text.now e) }
+    ensures answer { MatchResult result (λ made. IsAssembly text.now made) (λ e. IsTextRefused text.now e) }
 
     // The only answer but for want of memory.
     ensures exact { IsExact text.now (file_in result) }
@@ -60,7 +60,7 @@ pub fn assemble_counted(alloc: Global, text: &[u8]) -> Result<Assembly, AsmError
 /// Its errors are those of `assemble_counted`.
 pub fn assemble(alloc: Global, text: &[u8]) -> Result<Bytes, AsmError>
     requires { length text.now ≤ 67108864 }
-    ensures answer { MatchResult result (λ bytes. Assembled text.now bytes) (λ e. IsRefused text.now e) }
+    ensures answer { MatchResult result (λ bytes. Assembled text.now bytes) (λ e. IsTextRefused text.now e) }
     ensures exact { IsExact text.now result }
 {
     let made = assemble_counted(alloc, text)?;

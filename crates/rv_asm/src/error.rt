@@ -8,7 +8,7 @@ use thiserror::Error;
 /// What is wrong with a line. The faults are looked for in this order.
 #[derive(Clone, Copy, Debug, Error, PartialEq, Eq)]
 pub enum Fault {
-    /// The first word is no instruction, directive or label, or stands on the wrong side of `.data`.
+    /// The first word is not an instruction, directive or label, or stands on the wrong side of `.data`.
     #[error("unrecognized statement")]
     Unrecognized,
     /// What follows the first word is not of its form.
@@ -37,7 +37,7 @@ pub enum AsmError {
     /// No line is at fault, and none gives a code word.
     #[error("no instruction")]
     NoCode,
-    /// There is no memory.
+    /// Out of memory.
     #[error("out of memory")]
     Memory,
 }

@@ -1,7 +1,7 @@
 //! The file.
 ghost use Rattle.std.specs.Prelude.{◌≡◌, IfOk};
 ghost use Rattle.machine.specs.Numbers.{bytes_of};
-ghost use Rattle.rv_asm.specs.Assembled.{values_bytes, file_from, file_with as file_with_of};
+ghost use Rattle.rv_asm.specs.Assembled.{values_bytes, file_from, file_of_given as file_with_of};
 
 use crate::place::{CODE, DATA};
 use elf_types::abi::{PF_R, PF_W, PF_X, SHF_ALLOC, SHF_EXECINSTR, SHF_WRITE};
@@ -47,7 +47,7 @@ fn file(segments: Vec<Segment>, sections: Vec<OutSection>, symbols: Vec<Symbol>)
 }
 
 /// The file of code words, data words and labels.
-#[tactic(auto, unfolding(crate::specs::Assembled::file_with))]
+#[tactic(auto, unfolding(crate::specs::Assembled::file_of_given))]
 pub fn file_with(
     alloc: Global,
     code: &[u32],

@@ -2,7 +2,7 @@
 ghost use Rattle.std.specs.Prelude.{◌≡◌, ◌<◌, ◌^◌, unwrap_or, []};
 ghost use Rattle.rv_asm.specs.Given.{in_code as in_code_of, in_data as in_data_of, alone, label_given, is_defined_before, given_by};
 ghost use Rattle.rv_asm.specs.Lines.{label_in as label_in_of};
-ghost use Rattle.rv_asm.specs.Named.{named};
+ghost use Rattle.rv_asm.specs.Named.{label_named};
 
 use crate::error::Fault;
 use crate::heads::Head;
@@ -12,10 +12,10 @@ use crate::operands::{raw_word_in, word_of};
 use crate::place::Place;
 use texts::number;
 
-/// At most so many code words.
+/// The most code words.
 const MAX_CODE: u64 = 16_384;
 
-/// At most so many data words.
+/// The most data words.
 const MAX_DATA: u64 = 131_072;
 
 /// What a line gives.
@@ -63,7 +63,7 @@ fn in_data(place: Place, value: Option<u64>) -> Result<Given, Fault>
 
 /// A label on a line: nothing follows it, and no earlier line defines it.
 fn label(labels: &Labels, line_number: u64, word: &[u8], rest: &[u8]) -> Result<Given, Fault>
-    ensures { result ≡ alone rest.now (label_given (is_defined_before line_number (named labels.now (unwrap_or (label_in_of word.now) [])))) }
+    ensures { result ≡ alone rest.now (label_given (is_defined_before line_number (label_named labels.now (unwrap_or (label_in_of word.now) [])))) }
 {
     if !rest.is_empty() {
         return Err(Fault::IllegalOperands);
@@ -79,7 +79,7 @@ fn label(labels: &Labels, line_number: u64, word: &[u8], rest: &[u8]) -> Result<
 pub fn give(labels: &Labels, place: Place, line_number: u64, line: &Line) -> Result<Given, Fault>
     requires code { place.code_words < 2 ^ 32 }
     requires words { place.data_words < 2 ^ 32 }
-    ensures { result ≡ given_by (named labels.now) place line_number line.now.head line.now.word.now line.now.rest.now }
+    ensures { result ≡ given_by (label_named labels.now) place line_number line.now.head line.now.word.now line.now.rest.now }
 {
     match line.head {
         Head::Blank => Ok(Given::Nothing),

@@ -2,9 +2,9 @@
 ghost use Rattle.std.specs.Prelude.{◌≡◌, ◌≤◌, ℕ, List, Option, IfOk, OnOk, Some, None, if◌then◌else◌, length};
 ghost use Rattle.std.specs.Option.{option_or};
 ghost use Rattle.std.specs.Str.{bytes_eq};
-ghost use Rattle.rv_asm.specs.Assembled.{is_same, label_of};
+ghost use Rattle.rv_asm.specs.Assembled.{is_same_label, label_of};
 ghost use Rattle.rv_asm.specs.Lines.{label_in as label_in_of, lines_of};
-ghost use Rattle.rv_asm.specs.Named.{named};
+ghost use Rattle.rv_asm.specs.Named.{label_named};
 
 use crate::lines::{label_in, parts};
 use crate::place::Place;
@@ -29,7 +29,7 @@ pub struct Labels<'a> {
 impl<'a> Labels<'a> {
     /// No label.
     fn new(alloc: Global) -> Labels<'a>
-        ensures { (q : List ℕ) → named result q ≡ None }
+        ensures { (q : List ℕ) → label_named result q ≡ None }
     {
         Labels {
             by_name: HashMap::new(alloc),
@@ -38,14 +38,14 @@ impl<'a> Labels<'a> {
 
     /// The label of a name.
     pub fn find(&self, name: &[u8]) -> Option<Label>
-        ensures { result ≡ named self.now name.now }
+        ensures { result ≡ label_named self.now name.now }
     {
         self.by_name.get(name).copied()
     }
 
     /// Adds a label where none has its name.
     fn define(&mut self, name: &'a [u8], label: Label) -> Result<(), AllocError>
-        ensures { OnOk result ((q : List ℕ) → named self.new q ≡ option_or (named self.old q) (if bytes_eq q name.now then Some label else None)) }
+        ensures { OnOk result ((q : List ℕ) → label_named self.new q ≡ option_or (label_named self.old q) (if bytes_eq q name.now then Some label else None)) }
     {
         match self.find(name) {
             Some(_) => Ok(()),
@@ -59,7 +59,7 @@ impl<'a> Labels<'a> {
 
 /// Adds the label that a first word defines, where it defines one and none has its name.
 fn define_by<'a>(labels: &mut Labels<'a>, word: &'a [u8], label: Label) -> Result<(), AllocError>
-    ensures { OnOk result ((q : List ℕ) → named labels.new q ≡ option_or (named labels.old q) (if is_same q (label_in_of word.now) then Some label else None)) }
+    ensures { OnOk result ((q : List ℕ) → label_named labels.new q ≡ option_or (label_named labels.old q) (if is_same_label q (label_in_of word.now) then Some label else None)) }
 {
     match label_in(word) {
         Some(name) => labels.define(name, label),
@@ -70,7 +70,7 @@ fn define_by<'a>(labels: &mut Labels<'a>, word: &'a [u8], label: Label) -> Resul
 /// The labels of a text's lines, by first words alone.
 pub fn labels_of<'a>(alloc: Global, text: &'a [u8]) -> Result<Labels<'a>, AllocError>
     requires { length text.now ≤ 67108864 }
-    ensures { IfOk result (λ labels. (q : List ℕ) → named labels q ≡ label_of (lines_of text.now) q) }
+    ensures { IfOk result (λ labels. (q : List ℕ) → label_named labels q ≡ label_of (lines_of text.now) q) }
 {
     let mut labels = Labels::new(alloc);
     let mut place = Place::FIRST;

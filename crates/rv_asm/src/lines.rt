@@ -1,7 +1,9 @@
 //! Lines and their parts.
 ghost use Rattle.std.specs.Prelude.{◌≡◌, ◌≤◌, MatchOption, None, Some, unwrap_or, [], length};
 ghost use Rattle.std.specs.List.{list_all};
-ghost use Rattle.rv_asm.specs.Lines.{trim_start as trim_start_of, trim_end as trim_end_of, trim as trim_of, statement as statement_of, is_blank as is_blank_of, word_end as word_end_of, leading_word, rest_in, continues_name, is_name as is_name_of, label_in as label_in_of, pair_in as pair_in_of, triple_in as triple_in_of, bracketed_in as bracketed_in_of};
+ghost use Rattle.rv_asm.specs.Lines.{trim_start as trim_start_of, trim_end as trim_end_of, trim as trim_of, statement as statement_of};
+ghost use Rattle.rv_asm.specs.Lines.{is_blank as is_blank_of, word_end as word_end_of, leading_word, rest_in, continues_name, is_name as is_name_of};
+ghost use Rattle.rv_asm.specs.Lines.{label_in as label_in_of, pair_in as pair_in_of, triple_in as triple_in_of, bracketed_in as bracketed_in_of};
 ghost use Rattle.rv_asm.specs.Heads.{head_of};
 
 use crate::heads::{Head, recognize};
@@ -127,7 +129,7 @@ pub fn label_in(word: &[u8]) -> Option<&[u8]>
     (is_name(name) && rest.is_empty()).then_some(name)
 }
 
-/// The same; of no label where the first word is none.
+/// The name of the label that a first word defines, or an empty one.
 pub fn label_name(word: &[u8]) -> &[u8]
     ensures { result.now ≡ unwrap_or (label_in_of word.now) [] }
 {

@@ -2,8 +2,11 @@
 ghost use Rattle.std.specs.Prelude.{◌≡◌, length};
 ghost use Rattle.machine.specs.Table.{ins, encode_of};
 ghost use Rattle.texts.specs.Read.{digits as digits_of};
-ghost use Rattle.rv_asm.specs.Named.{named};
-ghost use Rattle.rv_asm.specs.Operands.{register_in as register_in_of, immediate_in as immediate_in_of, raw_word_in as raw_word_in_of, registers_from, immediate_from, load_from, store_from, upper_from, none_in as none_in_of, target_in as target_in_of, branch_from, jump_from, operands_in as operands_in_of, upper_imm as upper_imm_of, encoded as encoded_of, assembled_word as word_of_text};
+ghost use Rattle.rv_asm.specs.Named.{label_named};
+ghost use Rattle.rv_asm.specs.Operands.{register_in as register_in_of, immediate_in as immediate_in_of, raw_word_in as raw_word_in_of, registers_from};
+ghost use Rattle.rv_asm.specs.Operands.{immediate_from, load_from, store_from, upper_from, none_in as none_in_of, target_in as target_in_of, branch_from};
+ghost use Rattle.rv_asm.specs.Operands.{jump_from, operands_in as operands_in_of, upper_imm as upper_imm_of, encoded as encoded_of};
+ghost use Rattle.rv_asm.specs.Operands.{assembled_word as word_of_text};
 ghost use Rattle.rv_asm.specs.Lines.{pair_in as pair_in_of, triple_in as triple_in_of};
 
 use crate::error::Fault;
@@ -148,7 +151,7 @@ fn none(text: &[u8]) -> Option<Operands>
 /// The last operand of a branch or a jump at an address: an immediate, or the distance to a label, in bytes.
 #[tactic(auto, unfolding(crate::specs::Operands::target_in))]
 fn target_in(labels: &Labels, at: u64, text: &[u8]) -> Result<i128, Fault>
-    ensures { result ≡ target_in_of (named labels.now) at text.now }
+    ensures { result ≡ target_in_of (label_named labels.now) at text.now }
 {
     if let Some(imm) = immediate_in(text) {
         return Ok(imm);
@@ -161,7 +164,7 @@ fn target_in(labels: &Labels, at: u64, text: &[u8]) -> Result<i128, Fault>
 }
 
 fn branch(labels: &Labels, at: u64, text: &[u8]) -> Result<Operands, Fault>
-    ensures { result ≡ branch_from (named labels.now) at (triple_in_of text.now) }
+    ensures { result ≡ branch_from (label_named labels.now) at (triple_in_of text.now) }
 {
     let (rs1, rs2, target) = triple_in(text).ok_or(Fault::IllegalOperands)?;
     let rs1 = register_in(rs1).ok_or(Fault::IllegalOperands)?;
@@ -171,7 +174,7 @@ fn branch(labels: &Labels, at: u64, text: &[u8]) -> Result<Operands, Fault>
 }
 
 fn jump(labels: &Labels, at: u64, text: &[u8]) -> Result<Operands, Fault>
-    ensures { result ≡ jump_from (named labels.now) at (pair_in_of text.now) }
+    ensures { result ≡ jump_from (label_named labels.now) at (pair_in_of text.now) }
 {
     let (rd, target) = pair_in(text).ok_or(Fault::IllegalOperands)?;
     let rd = register_in(rd).ok_or(Fault::IllegalOperands)?;
@@ -182,7 +185,7 @@ fn jump(labels: &Labels, at: u64, text: &[u8]) -> Result<Operands, Fault>
 /// The operands of an instruction at an address.
 #[tactic(auto, unfolding(crate::specs::Operands::operands_in))]
 fn operands_in(labels: &Labels, at: u64, form: Form, text: &[u8]) -> Result<Operands, Fault>
-    ensures { result ≡ operands_in_of (named labels.now) at form text.now }
+    ensures { result ≡ operands_in_of (label_named labels.now) at form text.now }
 {
     match form {
         Form::Registers => registers(text).ok_or(Fault::IllegalOperands),
@@ -239,7 +242,7 @@ fn encoded(kind: Kind, operands: &Operands) -> Option<u32>
 /// The word of an instruction at an address, or the first fault of its operands.
 #[tactic(auto, unfolding(crate::specs::Operands::assembled_word))]
 pub fn word_of(labels: &Labels, at: u64, kind: Kind, text: &[u8]) -> Result<u32, Fault>
-    ensures { result ≡ word_of_text (named labels.now) at kind text.now }
+    ensures { result ≡ word_of_text (label_named labels.now) at kind text.now }
 {
     let operands = operands_in(labels, at, form_of(kind), text)?;
     encoded(kind, &operands).ok_or(Fault::OutOfRange)

@@ -1,8 +1,8 @@
 //! All lines of a text.
 ghost use Rattle.std.specs.Prelude.{◌≡◌, ◌≤◌, ◌++◌, IfOk, MatchResult, OnOk, Ok, [], unwrap_or, length};
-ghost use Rattle.rv_asm.specs.Assembled.{code_in, data_in, symbol_in, symbol as symbol_of, file_with as file_with_of, IsRefused};
+ghost use Rattle.rv_asm.specs.Assembled.{code_given, data_given, symbol_in, symbol as symbol_of, file_of_given as file_with_of, IsTextRefused};
 ghost use Rattle.rv_asm.specs.Lines.{label_in as label_in_of, lines_of};
-ghost use Rattle.rv_asm.specs.Program.{IsProgram};
+ghost use Rattle.rv_asm.specs.Program.{IsTextProgram};
 
 use crate::error::AsmError;
 use crate::file::file_with;
@@ -34,8 +34,8 @@ impl Program {
         word: &[u8],
         address: u64,
     ) -> Result<(), AllocError>
-        ensures code { OnOk result (self.new.code.items ≡ self.old.code.items ++ code_in (Ok given)) }
-        ensures words { OnOk result (self.new.values.items ≡ self.old.values.items ++ data_in (Ok given)) }
+        ensures code { OnOk result (self.new.code.items ≡ self.old.code.items ++ code_given (Ok given)) }
+        ensures words { OnOk result (self.new.values.items ≡ self.old.values.items ++ data_given (Ok given)) }
         ensures symbols { OnOk result (self.new.symbols.items ≡ self.old.symbols.items ++ symbol_in word.now address (Ok given)) }
     {
         match given {
@@ -76,7 +76,7 @@ fn symbol(alloc: Global, word: &[u8], address: u64) -> Result<Symbol, AllocError
 /// What the lines of a text give, or the first line at fault.
 pub fn program_of(alloc: Global, text: &[u8]) -> Result<Program, AsmError>
     requires { length text.now ≤ 67108864 }
-    ensures { MatchResult result (λ program. IsProgram (lines_of text.now) program) (λ e. IsRefused text.now e) }
+    ensures { MatchResult result (λ program. IsTextProgram (lines_of text.now) program) (λ e. IsTextRefused text.now e) }
 {
     let labels = labels_of(alloc, text)?;
     let code = Vec::new(alloc);

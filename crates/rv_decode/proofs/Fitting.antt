@@ -1,4 +1,4 @@
--- The rows at the place of a word decide which instruction it is. Both ways go by a test that computes over the whole table.
+-- The rows at the place of a word decide its instruction. Both ways go by a test that computes over the whole table.
 use Rattle.std.proofs.Common.{◌≡◌, ℕ, ◌+◌, ◌*◌, ◌/◌, ◌%◌, ◌<◌, zero, suc, Bool, true, false, cond, not, ◌&&◌, ◌||◌, List, [], ◌∷◌, length, get_or, Some, None, refl, sym, ap, ◌∙◌, arith}
 use Rattle.std.specs.Prelude.{Option, bit_and, ◌==◌}
 use Rattle.std.specs.List.{list_all, list_any}
@@ -10,7 +10,7 @@ use Rattle.machine.specs.Table.{Format, R, I, H, G, S, B, U, J, N, mask_of, row_
 use Rattle.machine.proofs.Lemmas.{each_kind, decode-fits, fits-decode}
 use Rattle.rv_decode.specs.declared.table.Row.{Row}
 use Rattle.rv_decode.specs.Formats.{format_of}
-use Rattle.rv_decode.specs.Rows.{matches, first_fit, places, listed_at}
+use Rattle.rv_decode.specs.Rows.{matches, first_fit, row_places, listed_at}
 use Rattle.rv_decode.proofs.Places.{first_bound, second_bound}
 
 -- ---- each row of the code is the row of its kind
@@ -40,8 +40,8 @@ stands k r = (r.mask == mask_of (row_of k).format) && (r.fixed == (row_of k).mat
 abbrev right : Row → Bool
 right r = stands r.kind r && (number (format_of r.format) == number (row_of r.kind).format)
 
-rows_right : list_all (list_all (list_all right)) places ≡ true
-unfolding places
+rows_right : list_all (list_all (list_all right)) row_places ≡ true
+unfolding row_places
 rows_right = refl
 
 -- ---- a row stands at each place where a word can fit it
@@ -60,8 +60,8 @@ abbrev lines : ℕ → List (List (List Row)) → Bool
 lines i [] = true
 lines i (t ∷ ts) = line i 0 t && lines (suc i) ts
 
-table_full : lines 0 places ≡ true
-unfolding places
+table_full : lines 0 row_places ≡ true
+unfolding row_places
 table_full = refl
 
 full_in : (i j n : ℕ) (t : List (List Row)) (b : ℕ) → line i j t ≡ true → b < length t → n ≡ j + b → full i n (get_or t b []) ≡ true
@@ -74,10 +74,10 @@ line_in i n [] a e h p = absurd (omega arith)
 line_in i n (t ∷ ts) zero e h p = let q : i ≡ n = omega arith in ap (λ m. line m 0 t) (sym q) ∙ (and_parts _ _ e).0
 line_in i n (t ∷ ts) (suc a) e h p = line_in (suc i) n ts a (and_parts _ _ e).1 (omega arith) (omega arith)
 
-word_full : (w : ℕ) → full (bits w 2 5) (bits w 12 3) (listed_at places w) ≡ true
+word_full : (w : ℕ) → full (bits w 2 5) (bits w 12 3) (listed_at row_places w) ≡ true
 word_full w =
-    let l = line_in 0 (bits w 2 5) places (bits w 2 5) table_full (first_bound w) (omega arith) in
-    full_in (bits w 2 5) 0 (bits w 12 3) (get_or places (bits w 2 5) []) (bits w 12 3) l (second_bound w) (omega arith)
+    let l = line_in 0 (bits w 2 5) row_places (bits w 2 5) table_full (first_bound w) (omega arith) in
+    full_in (bits w 2 5) 0 (bits w 12 3) (get_or row_places (bits w 2 5) []) (bits w 12 3) l (second_bound w) (omega arith)
 
 -- the bits of a word that say its place
 place_bits : (w : ℕ) → bit_and w 0x707c ≡ bits w 12 3 * 4096 + bits w 2 5 * 4
@@ -95,8 +95,8 @@ implied true b e h = e
 implied false b e h = absurd (false≢true h)
 
 -- a kind whose row a word fits has its row at the word's place
-has_row : (k : Kind) (w : ℕ) → fits (row_of k) w ≡ true → list_any (stands k) (listed_at places w) ≡ true
-has_row k w f = implied _ _ (each_kind (λ k. not (may k (bits w 2 5) (bits w 12 3)) || list_any (stands k) (listed_at places w)) (word_full w) k) (fits-may k w f)
+has_row : (k : Kind) (w : ℕ) → fits (row_of k) w ≡ true → list_any (stands k) (listed_at row_places w) ≡ true
+has_row k w f = implied _ _ (each_kind (λ k. not (may k (bits w 2 5) (bits w 12 3)) || list_any (stands k) (listed_at row_places w)) (word_full w) k) (fits-may k w f)
 
 -- ---- the first row that fits
 stands-fits : (k : Kind) (r : Row) (w : ℕ) → stands k r ≡ true → matches r w ≡ fits (row_of k) w
@@ -129,26 +129,26 @@ all_at p [] i d e h = absurd (omega arith)
 all_at p (x ∷ xs) zero d e h = (and_parts _ _ e).0
 all_at p (x ∷ xs) (suc i) d e h = all_at p xs i d (and_parts _ _ e).1 (omega arith)
 
-word_right : (w : ℕ) → list_all right (listed_at places w) ≡ true
+word_right : (w : ℕ) → list_all right (listed_at row_places w) ≡ true
 word_right w =
-    let l = all_at (list_all (list_all right)) places (bits w 2 5) [] rows_right (first_bound w) in
-    all_at (list_all right) (get_or places (bits w 2 5) []) (bits w 12 3) [] l (second_bound w)
+    let l = all_at (list_all (list_all right)) row_places (bits w 2 5) [] rows_right (first_bound w) in
+    all_at (list_all right) (get_or row_places (bits w 2 5) []) (bits w 12 3) [] l (second_bound w)
 
 -- ---- the instruction of a word
--- where no row at its place fits, the word is no instruction
-pub no_row : (w : ℕ) (rs : List Row) (o : Option Row) → rs ≡ listed_at places w → o ≡ first_fit rs w → o ≡ None → None ≡ decode_of w
+-- if no row at its place fits, the word is not an instruction
+pub no_row : (w : ℕ) (rs : List Row) (o : Option Row) → rs ≡ listed_at row_places w → o ≡ first_fit rs w → o ≡ None → None ≡ decode_of w
 no_row w rs o p q n =
-    let e : first_fit (listed_at places w) w ≡ None = ap (λ rs. first_fit rs w) (sym p) ∙ sym q ∙ n in
+    let e : first_fit (listed_at row_places w) w ≡ None = ap (λ rs. first_fit rs w) (sym p) ∙ sym q ∙ n in
     elim (decode_of w) as (λ o. decode_of w ≡ o → None ≡ o) [
       | None ↦ λ d. refl
-      | Some i ↦ λ d. let f = fits-decode w i d in absurd (none_fits i.kind w (listed_at places w) f (has_row i.kind w f) e)
+      | Some i ↦ λ d. let f = fits-decode w i d in absurd (none_fits i.kind w (listed_at row_places w) f (has_row i.kind w f) e)
     ] refl
 
 -- the first row that fits gives the kind and the format
-pub some_row : (w : ℕ) (rs : List Row) (o : Option Row) (r : Row) (i : Ins) → rs ≡ listed_at places w → o ≡ first_fit rs w → o ≡ Some r → i ≡ ins_of (format_of r.format) r.kind w → Some i ≡ decode_of w
+pub some_row : (w : ℕ) (rs : List Row) (o : Option Row) (r : Row) (i : Ins) → rs ≡ listed_at row_places w → o ≡ first_fit rs w → o ≡ Some r → i ≡ ins_of (format_of r.format) r.kind w → Some i ≡ decode_of w
 some_row w rs o r i p q s h =
-    let e : first_fit (listed_at places w) w ≡ Some r = ap (λ rs. first_fit rs w) (sym p) ∙ sym q ∙ s in
-    let p = some_fits w (listed_at places w) r (word_right w) e in
+    let e : first_fit (listed_at row_places w) w ≡ Some r = ap (λ rs. first_fit rs w) (sym p) ∙ sym q ∙ s in
+    let p = some_fits w (listed_at row_places w) r (word_right w) e in
     let q = and_parts _ _ p.0 in
     let f : format_of r.format ≡ (row_of r.kind).format = sym (numbers (format_of r.format)) ∙ ap numbered (eqb-true _ _ q.1) ∙ numbers (row_of r.kind).format in
     ap Some (h ∙ ap (λ f. ins_of f r.kind w) f) ∙ sym (decode-fits r.kind w (sym (stands-fits r.kind r w q.0) ∙ p.1))

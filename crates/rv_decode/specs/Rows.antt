@@ -26,5 +26,5 @@ lists_of t = map (map (λ (b : Bor (List Row)). b.now)) t
 abbrev pub listed : record { now : List Row } → List Row
 listed l = l.now
 
-unfoldable pub places : List (List (List Row))
-places = map (map listed) TABLE
+unfoldable pub row_places : List (List (List Row))
+row_places = map (map listed) TABLE

@@ -2,7 +2,7 @@
 ghost use Rattle.std.specs.Prelude.{◌≡◌, ◌^◌, ◌<◌, ◌≤◌, true};
 ghost use Rattle.machine.specs.Table.{fits_signed as fits_signed_of, fits_below as fits_below_of, to_bits as to_bits_of};
 
-/// Whether this is a signed number of so many bits.
+/// Whether this is a signed number of `width` bits.
 #[inline]
 pub fn fits_signed(width: u32, imm: i64) -> bool
     requires some { 1 ≤ width }
@@ -13,7 +13,7 @@ pub fn fits_signed(width: u32, imm: i64) -> bool
     -half <= imm && imm < half
 }
 
-/// Whether this is a number of so many bits, without a sign.
+/// Whether this is a number of `width` bits, without a sign.
 #[inline]
 pub fn fits_below(width: u32, imm: i64) -> bool
     requires { width ≤ 32 }

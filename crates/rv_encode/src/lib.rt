@@ -15,13 +15,13 @@ ghost use Rattle.machine.specs.Table.{decode_of, encode_of};
 use rows::any_row;
 use rv_isa::Ins;
 
-/// The word of an instruction: the fixed bits of its kind's row in the instruction listings, and
-/// its fields in the places of the row's format (RISC-V unprivileged manual, "RV32/64G Instruction
-/// Set Listings"). The word of `Illegal` is 0.
+/// The word of an instruction: the fixed bits of its kind's row in the instruction listings, and its fields in the
+/// places of the row's format (RISC-V unprivileged manual, "RV32/64G Instruction Set Listings"). The word of `Illegal`
+/// is 0.
 ///
-/// None where the immediate is out of the format's range (12 signed bits in I and S, 13 in B, 21 in
-/// J, 32 in U, a shift amount below 64, or below 32 for the shifts of 32 bits), where it is off its
-/// grain (2 in B and J, 4096 in U), or where a field that the format does not have is not 0.
+/// None if the immediate is out of the format's range or off its grain, or if a field that the format
+/// lacks is not 0. Ranges: 12 signed bits in I and S, 13 in B, 21 in J, 32 in U, a shift amount below
+/// 64, or below 32 for the shifts of 32 bits. Grains: 2 in B and J, 4096 in U.
 #[inline(always)]
 #[tactic(auto, using(crate::proofs::Inverse::encoded_decoded))]
 pub fn encode(ins: &Ins) -> Option<u32>

@@ -9,7 +9,7 @@ use crate::format::{
 use machine::rows;
 use rv_isa::{Ins, Kind};
 
-// The word of the instruction by the row of its kind, of which each has one.
+// The word of the instruction by the row of its kind. Each kind has one row.
 macro_rules! row_of_kind {
     ($ins:ident; $($kind:ident $format:ident $mask:literal $fixed:literal $($value:ident)?,)*) => {
         match $ins.kind {

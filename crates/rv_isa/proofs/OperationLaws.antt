@@ -4,18 +4,18 @@ use Rattle.std.specs.Prelude.{slice_index}
 use Rattle.rv_isa.specs.declared.profile.TheConstants.{LAST_ORIGINAL}
 use Rattle.rv_isa.specs.declared.ins.Ins.{Ins}
 use Rattle.rv_isa.specs.Kind.{class_of, writes_rd, reads_rs1, reads_rs2}
-use Rattle.rv_isa.specs.Ins.{named, writes}
+use Rattle.rv_isa.specs.Ins.{named_register, writes}
 use Rattle.rv_isa.specs.Regs.{set_reg}
 use Rattle.rv_isa.specs.Operation.{AreRegs, ReadsRegister, pair}
 use Rattle.rv_isa.proofs.RegsLaws.{slice_index-set_reg_same, slice_index-set_reg_other, length-set_reg}
 
 -- a register with the field is named, and a named register is the one of the field
-pub named-some : (b : Bool) (r : ℕ) → b ≡ true → 0 < r → named b r ≡ Some r
+pub named-some : (b : Bool) (r : ℕ) → b ≡ true → 0 < r → named_register b r ≡ Some r
 named-some true zero e h = absurd (omega (arith, h))
 named-some true (suc r) e h = refl
 named-some false r e h = absurd (cc)
 
-pub some-named : (b : Bool) (n r : ℕ) → named b n ≡ Some r → (n ≡ r) × (0 < r) × (b ≡ true)
+pub some-named : (b : Bool) (n r : ℕ) → named_register b n ≡ Some r → (n ≡ r) × (0 < r) × (b ≡ true)
 some-named true zero r e = absurd (cc)
 some-named true (suc n) r e = let h : suc n ≡ r = cc in (h, omega (arith, h), refl)
 some-named false n r e = absurd (cc)
@@ -49,7 +49,7 @@ set_same f i v w regs others above h k e r is = let s = some-named _ i.rd r is i
       let low : 0 < d = omega (arith, s, p) in
       rw (← s) (slice_index-set_reg_same others (f d) w (above d low) k ∙ (e ∙ sym (slice_index-set_reg_same regs d v low h)))
 
--- the same pairs
+-- pairs of registers
 pub pair-above : (r : ℕ) → 0 < r → 0 < pair r
 pair-above zero h = h
 pair-above (suc r) h = omega arith

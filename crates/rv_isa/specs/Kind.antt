@@ -3,7 +3,9 @@ use Rattle.std.specs.Prelude.{Bool, true, false, not}
 use Rattle.rv_isa.specs.declared.class.Class.{Class}
 use Rattle.rv_isa.specs.declared.class.Class.TheVariants as class
 use Rattle.rv_isa.specs.declared.kind.Kind.{Kind}
-use Rattle.rv_isa.specs.declared.kind.Kind.TheVariants.{Illegal, Lui, Auipc, Jal, Jalr, Beq, Bne, Blt, Bge, Bltu, Bgeu, Lb, Lh, Lw, Ld, Lbu, Lhu, Lwu, Sb, Sh, Sw, Sd, Addi, Slti, Sltiu, Xori, Ori, Andi, Slli, Srli, Srai, Fence, Ecall, Ebreak, Addiw, Slliw, Srliw, Sraiw}
+use Rattle.rv_isa.specs.declared.kind.Kind.TheVariants.{Illegal, Lui, Auipc, Jal, Jalr, Beq, Bne, Blt, Bge, Bltu, Bgeu, Lb, Lh, Lw, Ld, Lbu, Lhu, Lwu, Sb, Sh}
+use Rattle.rv_isa.specs.declared.kind.Kind.TheVariants.{Sw, Sd, Addi, Slti, Sltiu, Xori, Ori, Andi, Slli, Srli, Srai, Fence, Ecall, Ebreak, Addiw, Slliw}
+use Rattle.rv_isa.specs.declared.kind.Kind.TheVariants.{Srliw, Sraiw}
 
 -- what an instruction of the kind does
 abbrev pub class_of : Kind → Class

@@ -6,7 +6,7 @@ use Rattle.rv_isa.specs.declared.ins.Ins.{Ins}
 use Rattle.rv_isa.specs.Kind.{class_of}
 use Rattle.rv_isa.specs.Ins.{writes, reads}
 
--- what registers hold: 32 numbers of which the first is 0
+-- what registers hold: 32 numbers, the first of them 0
 pub record AreRegs (regs : List ℕ) : Type 0 where
   pub count : length regs ≡ 32
   pub first : slice_index regs 0 ≡ 0
@@ -34,8 +34,8 @@ pub record IsLow (i : Ins) : Type 0 where
   pub rs1 : i.rs1 ≤ LAST_ORIGINAL
   pub rs2 : i.rs2 ≤ LAST_ORIGINAL
 
--- ---- laws of an operation, which is for some classes. From an instruction, the pc and the numbers of the registers it makes the
--- new numbers and the next pc.
+-- ---- laws of an operation, for some classes: from an instruction, the pc and the registers' numbers
+-- it makes the new numbers and the next pc.
 
 -- every register other than the one that is written stays, x0 among them, and there are as many as before
 abbrev pub Frame : (Class → Type 0) → (Ins → ℕ → List ℕ → List ℕ) → Type 0
@@ -50,10 +50,11 @@ Sources for registers next =
     ((r : ℕ) → ReadsRegister i r → slice_index others r ≡ slice_index regs r) →
     (next i pc others ≡ next i pc regs) × ((r : ℕ) → writes i ≡ Some r → slice_index (registers i pc others) r ≡ slice_index (registers i pc regs) r)
 
--- where the pairs of the registers that are read equal these, the renamed instruction has the same next pc, and gives the pair what
--- the instruction gives the original
+-- if the pairs of the registers that are read equal these, the renamed instruction has an equal next pc, and gives the
+-- pair what the instruction gives the original
 abbrev pub Mirror : (Class → Type 0) → (Ins → ℕ → List ℕ → List ℕ) → (Ins → ℕ → List ℕ → ℕ) → Type 0
 Mirror for registers next =
     (i : Ins) (pc : ℕ) (regs others : List ℕ) → for (class_of i.kind) → IsLow i → AreRegs regs → AreRegs others →
     ((r : ℕ) → ReadsRegister i r → slice_index others (pair r) ≡ slice_index regs r) →
-    (next (renamed i) pc others ≡ next i pc regs) × ((r : ℕ) → writes i ≡ Some r → slice_index (registers (renamed i) pc others) (pair r) ≡ slice_index (registers i pc regs) r)
+    (next (renamed i) pc others ≡ next i pc regs)
+    × ((r : ℕ) → writes i ≡ Some r → slice_index (registers (renamed i) pc others) (pair r) ≡ slice_index (registers i pc regs) r)

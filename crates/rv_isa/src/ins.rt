@@ -1,7 +1,7 @@
 //! Instructions: what each reads, writes and does.
 ghost use Rattle.std.specs.Prelude.{◌≡◌};
 ghost use Rattle.rv_isa.specs.Kind.{class_of, writes_rd, reads_rs1, reads_rs2, has_immediate};
-ghost use Rattle.rv_isa.specs.Ins.{nop, named, writes, reads};
+ghost use Rattle.rv_isa.specs.Ins.{nop, named_register, writes, reads};
 
 use crate::{Class, Kind, Reg};
 
@@ -22,7 +22,7 @@ pub struct Ins {
 
 /// The register where the instruction has the field, None for x0.
 fn named(has_field: bool, r: Reg) -> Option<Reg>
-    ensures { result ≡ named has_field r }
+    ensures { result ≡ named_register has_field r }
 {
     if has_field && r.number() != 0 {
         Some(r)

@@ -11,7 +11,7 @@ use Rattle.std.proofs.lemmas.Bool.Decides.{nat_tests}
 use Rattle.machine.specs.Step.{in_range}
 use Rattle.tests.specs.declared.range.Span.{Span}
 use Rattle.tests.specs.Ranges.{span, spans}
-use Rattle.rv_step.specs.Reached.{spans_word, AreRising, BeginBy, IsAmong, IsFarthest}
+use Rattle.rv_step.specs.Reached.{spans_word, AreRising, BeginBy, HasWordsAmong, IsFarthest}
 
 any_has : (a : ℕ) (rs : List (ℕ × ℕ)) → in_range a rs ≡ list_any (spans_word a) rs
 any_has a [] = refl
@@ -95,5 +95,5 @@ nearest_tells a rs n d up some most begun behind = elim (nat_le (a + 4) (get_or 
   | false ↦ λ e. none_has a rs (beyond a rs n d up some most behind e)
 ] refl
 
-pub is_among : (rs : List (ℕ × ℕ)) (k : ℕ) (d : ℕ × ℕ) → k < length rs → IsAmong rs (get_or rs k d)
+pub is_among : (rs : List (ℕ × ℕ)) (k : ℕ) (d : ℕ × ℕ) → k < length rs → HasWordsAmong rs (get_or rs k d)
 is_among rs k d l = λ a e. one_has a rs k d l e

@@ -10,12 +10,12 @@ use Rattle.machine.specs.Program.{LoadSegment}
 use Rattle.machine.specs.Values.{holds, width_of}
 use Rattle.machine.specs.Step.{State, Fetched, Refused, Unknown, Known, known_or, fetched_at, reg, place, target, in_range, jumped, execute, act, next, step, step_at, Ins, Class, class_of}
 use Rattle.mem_image.specs.Segments.{number_in}
-use Rattle.mem_image.specs.Fixed.{IsFixed}
+use Rattle.mem_image.specs.Fixed.{IsFixedCode}
 use Rattle.mem_image.proofs.FixedLaws.{fixed_number, fixed_put}
 use Rattle.machine.specs.declared.outcome.Outcome.{Outcome}
 use Rattle.machine.specs.declared.outcome.Outcome.TheVariants.{Going}
 use Rattle.rv_step.specs.Harts.{HartState, with_memory}
-use Rattle.rv_step.specs.Known.{goes_on, state_word}
+use Rattle.rv_step.specs.Known.{does_step, state_word}
 use Rattle.rv_step.specs.Windows.{IsIn, HasWord, IsKept, IsWindow, StandsFixed, IsHeld, IsTable, IsKnown}
 use Rattle.rv_step.specs.declared.table.Entry.{Entry}
 use Rattle.rv_step.specs.declared.window.Window.{Window}
@@ -54,14 +54,14 @@ held_next s a i h at grain = subst (λ b. fetched_at s.memory s.ranges b ≡ Kno
 
 -- ---- a step
 -- a segment that is kept in one memory, and in another with the same bytes
-kept : (o : Option LoadSegment) (s t : State) → ((code : LoadSegment) → IsFixed s.memory code → IsFixed t.memory code) → IsKept s o → IsKept t o
+kept : (o : Option LoadSegment) (s t : State) → ((code : LoadSegment) → IsFixedCode s.memory code → IsFixedCode t.memory code) → IsKept s o → IsKept t o
 kept None s t f k = tt
 kept (Some code) s t f k = f code k
 
 -- a state with the same ranges, in whose memory what was fixed is fixed, and whose pc is a multiple of 4 where it was
 record IsAfter (s t : State) : Type 0 where
   ranges : t.ranges ≡ s.ranges
-  fixed : (code : LoadSegment) → IsFixed s.memory code → IsFixed t.memory code
+  fixed : (code : LoadSegment) → IsFixedCode s.memory code → IsFixedCode t.memory code
   grain : s.pc % 4 ≡ 0 → t.pc % 4 ≡ 0
 
 stays : (s t : State) (w : Window) → IsAfter s t → IsWindow s w → IsWindow t w
@@ -83,7 +83,7 @@ unfolding jumped
 after_jumped regs target s = either (target % 4 == 0) _ _ s (λ on. same s _ refl refl (λ _. eqb-true (target % 4) 0 on)) (λ off. same s _ refl refl (λ g. g))
 
 after_stored : (i : Ins) (s : State) → grants (λ f. f.write) s.memory (place i s) (width_of i.kind) ≡ true
-    → (code : LoadSegment) → IsFixed s.memory code → IsFixed (put s.memory (place i s) (width_of i.kind) (reg s i.rs2)) code
+    → (code : LoadSegment) → IsFixedCode s.memory code → IsFixedCode (put s.memory (place i s) (width_of i.kind) (reg s i.rs2)) code
 after_stored i s g code h = fixed_put s.memory code (place i s) (width_of i.kind) (reg s i.rs2) h (omega arith) g
 
 after_execute : (c : Class) (i : Ins) (s : State) → IsAfter s (execute c i s)
@@ -109,7 +109,7 @@ after_act (Known i) s = after_execute (class_of i.kind) i s
 pub window_acted : (s : State) (w : Window) → IsWindow s w → IsWindow (act (next s) s) w
 window_acted s w h = stays s _ w (after_act (next s) s) h
 
--- and what is held stays so, as does what the loop of a long run keeps
+-- what is held at an address stays so, as does what the loop of a long run keeps
 held : (s t : State) (a : ℕ) (i : Ins) → IsAfter s t → IsHeld s a i → IsHeld t a i
 held s t a i f h = record {
   word = h.word;
@@ -153,16 +153,16 @@ known_new h g k m n w v es fs known is same kept window put =
     record { window = here; table = put (with_memory k n).state table here; grain = subst (λ (x : HartState). x.pc % 4 ≡ 0) (sym whole) known.grain }
 
 -- ---- a step of a hart that goes on
-at_going : (o : Outcome) (s : State) → goes_on o ≡ true → step_at o s ≡ act (next s) s
+at_going : (o : Outcome) (s : State) → does_step o ≡ true → step_at o s ≡ act (next s) s
 at_going Going s h = refl
 at_going o s h = absurd (cc)
 
-pub step_acts : (s : State) → goes_on s.outcome ≡ true → step s ≡ act (next s) s
+pub step_acts : (s : State) → does_step s.outcome ≡ true → step s ≡ act (next s) s
 unfolding step
 step_acts s h = at_going s.outcome s h
 
-pub step_executes : (s : State) (i : Ins) → goes_on s.outcome ≡ true → next s ≡ Known i → step s ≡ execute (class_of i.kind) i s
+pub step_executes : (s : State) (i : Ins) → does_step s.outcome ≡ true → next s ≡ Known i → step s ≡ execute (class_of i.kind) i s
 step_executes s i h is = step_acts s h ∙ ap (λ f. act f s) is
 
-pub known_stepped : (s : State) (w : Window) (es : List Entry) → goes_on s.outcome ≡ true → IsKnown s w es → IsKnown (step s) w es
+pub known_stepped : (s : State) (w : Window) (es : List Entry) → does_step s.outcome ≡ true → IsKnown s w es → IsKnown (step s) w es
 known_stepped s w es goes h = subst (λ t. IsKnown t w es) (sym (step_acts s goes)) (known_acted s w es h)

@@ -27,7 +27,7 @@ is_code_word s a = (a % 4 == 0) && (in_range a s.ranges && grants (λ f. f.execu
 abbrev pub state_word : State → ℕ → Option ℕ
 state_word s a = cond (is_code_word s a) (Some (number s.memory a 4)) None
 
--- a strike is no step
+-- a strike does not count as a step
 abbrev pub struck_progress : Place → ℕ → Progress → Progress
 struck_progress p x m = record { state = struck p x m.state; steps = m.steps }
 
@@ -36,11 +36,11 @@ abbrev pub at_state : State → Progress → Progress
 at_state s m = record { state = s; steps = m.steps }
 
 -- whether a step does anything
-abbrev pub goes_on : Outcome → Bool
-goes_on Going = true
-goes_on Ended = false
-goes_on Fired = false
-goes_on (Trapped c pc) = false
+abbrev pub does_step : Outcome → Bool
+does_step Going = true
+does_step Ended = false
+does_step Fired = false
+does_step (Trapped c pc) = false
 
 -- some of n steps were made, and not all
 pub record IsPart (m : Progress) (n : ℕ) (after : Progress) : Type 0 where
@@ -49,17 +49,17 @@ pub record IsPart (m : Progress) (n : ℕ) (after : Progress) : Type 0 where
   pub made : after ≡ progress m count
 
 -- the state after n steps, each from a state that went on, with the number of steps before them
-pub record IsMade (m : Progress) (n : ℕ) (after : Progress) : Type 0 where
+pub record IsRunMade (m : Progress) (n : ℕ) (after : Progress) : Type 0 where
   pub state : after.state ≡ (progress m n).state
   pub before : after.steps ≡ m.steps
-  pub going : (k : ℕ) → k < n → goes_on (progress m k).state.outcome ≡ true
+  pub going : (k : ℕ) → k < n → does_step (progress m k).state.outcome ≡ true
 
--- of n steps so many are made: each from a state that goes on, and where they are not all, behind them it does not
+-- `made` of n steps are made: each from a state that goes on; if fewer than n, it does not go on behind them
 pub record AreMade (m : Progress) (n made : ℕ) : Type 0 where
   pub within : made ≤ n
   pub all : progress m made ≡ progress m n
-  pub going : (k : ℕ) → k < made → goes_on (progress m k).state.outcome ≡ true
-  pub stopped : made < n → goes_on (progress m n).state.outcome ≡ false
+  pub going : (k : ℕ) → k < made → does_step (progress m k).state.outcome ≡ true
+  pub stopped : made < n → does_step (progress m n).state.outcome ≡ false
 
 -- the second operand of a computing instruction of a kind, which LUI and AUIPC do not have
 abbrev pub HasSecond : Kind → Ins → List ℕ → ℕ → Type 0

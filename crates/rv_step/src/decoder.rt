@@ -110,7 +110,7 @@ impl Clone for Kept {
     }
 }
 
-/// Decodes words, and keeps what it decoded. Copies share that, until one of them keeps more. Contracts see how many are kept.
+/// Decodes words, and keeps what it decoded. Copies share it until one keeps more. Contracts see how many are kept.
 #[derive(Drop)]
 pub struct Decoder {
     kept: Rc<Kept>,
@@ -191,7 +191,7 @@ impl Decoder {
         self.decode_new(at, word)
     }
 
-    /// The same, of a word that is kept from now on, where there is memory for it.
+    /// The instruction of a word, which is kept from now on if there is memory.
     #[inline(never)]
     fn decode_new(&mut self, at: usize, word: u32) -> Option<Ins>
         requires { at < 1024 }
@@ -206,8 +206,8 @@ impl Decoder {
         Some(ins)
     }
 
-    /// Keeps the instruction of a word where what is kept may be shared. That is copied first, but not for the first few words, so that a
-    /// short run leaves it.
+    /// Keeps the instruction of a word when what is kept may be shared. It is copied first, but not for the first few
+    /// words, so that a short run leaves it.
     fn keep_apart(&mut self, at: usize, word: u32, ins: &Ins)
         requires at { at < 1024 }
         requires right { decode_of word ≡ Some ins.now }

@@ -5,7 +5,7 @@ ghost use Rattle.rv_isa.specs.Regs.{set_reg};
 ghost use Rattle.rv_isa.specs.declared.class.Class.TheVariants as class;
 ghost use Rattle.machine.specs.Step.{act, computed_value, execute, imm, moved, next, next_pc, stopped, trapped};
 ghost use Rattle.rv_alu.specs.Steps.{branched, IsComputing, IsBranching, IsJumping, IsPassing};
-ghost use Rattle.rv_step.specs.Harts.{with_memory, Leads, LeadsIn};
+ghost use Rattle.rv_step.specs.Harts.{with_memory, LeadsHart, LeadsIn};
 ghost use Rattle.rv_step.specs.Known.{known_at, state_word, HasSecond};
 
 use crate::hart::Hart;
@@ -41,7 +41,7 @@ impl Hart {
         image.fetch_on(self.pc)
     }
 
-    /// The instruction at an address, or None where no code may be executed there or the word is no instruction.
+    /// The instruction at an address, or None if no code may be executed there or the word is not one.
     #[tactic(auto, unfolding(machine::specs::Step::fetched_at))]
     pub(crate) fn known(&self, image: &Image, address: u64) -> Option<Ins>
         ensures { result ≡ known_at (with_memory self.now image.now).state address }
@@ -75,7 +75,7 @@ impl Hart {
         Ok(on)
     }
 
-    /// The same, with a word that is decoded anew.
+    /// Executes a word that is decoded anew.
     #[inline(never)]
     fn advance_new(&mut self, word: u32, image: &mut Image) -> Result<bool, AllocError>
         requires { state_word (with_memory self.old image.old).state self.old.pc ≡ Some word }
@@ -149,21 +149,21 @@ macro_rules! by_kind {
 impl Hart {
     /// Stops the hart.
     fn stop(&mut self, outcome: Outcome)
-        ensures { Leads (stopped outcome) self.old self.new }
+        ensures { LeadsHart (stopped outcome) self.old self.new }
     {
         self.outcome = outcome;
     }
 
     /// Stops the hart by a trap at its pc.
     fn trap(&mut self, cause: Cause)
-        ensures { Leads (trapped cause) self.old self.new }
+        ensures { LeadsHart (trapped cause) self.old self.new }
     {
         self.stop(Outcome::Trapped(cause, self.pc));
     }
 
     /// Goes to the next word.
     fn go_on(&mut self)
-        ensures step { Leads (λ s. moved s.regs (next_pc s) s) self.old self.new }
+        ensures step { LeadsHart (λ s. moved s.regs (next_pc s) s) self.old self.new }
         ensures on { self.new.outcome ≡ self.old.outcome }
     {
         self.pc = self.pc.wrapping_add(4);
@@ -171,15 +171,15 @@ impl Hart {
 
     /// Sets a register, and goes to the next word.
     fn write_back(&mut self, rd: Reg, value: u64)
-        ensures step { Leads (λ s. moved (set_reg rd value s.regs) (next_pc s) s) self.old self.new }
+        ensures step { LeadsHart (λ s. moved (set_reg rd value s.regs) (next_pc s) s) self.old self.new }
         ensures on { self.new.outcome ≡ self.old.outcome }
     {
         self.go_on();
         self.regs.set(rd, value);
     }
 
-    /// One instruction, and whether it surely left the outcome. The pc is a multiple of 4, as it is where an instruction was fetched. Each
-    /// `LOOP` is a function of its own, with one caller, so that LLVM puts it there.
+    /// One instruction, and whether it surely left the outcome. The pc is a multiple of 4, as it is behind a fetch.
+    /// Each `LOOP` is a function of its own, with one caller, so that LLVM puts it there.
     #[tactic(auto, unfolding(machine::specs::Step::execute))]
     #[inline(always)]
     pub(crate) fn execute<const LOOP: u32>(
@@ -203,7 +203,7 @@ impl Hart {
         requires kind { ins.now.kind ≡ kind }
         requires class { IsComputing (class_of kind) }
         requires second { HasSecond kind ins.now self.old.regs second }
-        ensures step { Leads (execute (class_of ins.now.kind) ins.now) self.old self.new }
+        ensures step { LeadsHart (execute (class_of ins.now.kind) ins.now) self.old self.new }
         ensures on { self.new.outcome ≡ self.old.outcome }
     {
         let value = self.computed(kind, ins, second);
@@ -228,7 +228,7 @@ impl Hart {
     /// FENCE.
     fn pass(&mut self, ins: &Ins)
         requires { IsPassing (class_of ins.now.kind) }
-        ensures step { Leads (execute (class_of ins.now.kind) ins.now) self.old self.new }
+        ensures step { LeadsHart (execute (class_of ins.now.kind) ins.now) self.old self.new }
         ensures on { self.new.outcome ≡ self.old.outcome }
     {
         self.pc = Passing.act(ins, self.pc, &mut self.regs);
@@ -285,7 +285,7 @@ impl Hart {
         requires kind { ins.now.kind ≡ kind }
         requires class { IsBranching (class_of kind) }
         requires grain { self.old.pc % 4 ≡ 0 }
-        ensures step { Leads (execute (class_of ins.now.kind) ins.now) self.old self.new }
+        ensures step { LeadsHart (execute (class_of ins.now.kind) ins.now) self.old self.new }
         ensures on { result ≡ true → self.new.outcome ≡ self.old.outcome }
     {
         let target = self.arrival(kind, ins);
@@ -313,7 +313,7 @@ impl Hart {
     #[inline(always)]
     fn jump(&mut self, ins: &Ins) -> bool
         requires { IsJumping (class_of ins.now.kind) }
-        ensures step { Leads (execute (class_of ins.now.kind) ins.now) self.old self.new }
+        ensures step { LeadsHart (execute (class_of ins.now.kind) ins.now) self.old self.new }
         ensures on { result ≡ true → self.new.outcome ≡ self.old.outcome }
     {
         let before = self.reg(ins.rd);

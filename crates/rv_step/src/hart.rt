@@ -3,13 +3,13 @@ ghost use Rattle.std.specs.Prelude.{◌≡◌, ◌-◌, ◌%◌, ◌<◌, ◌≤
 ghost use Rattle.machine.specs.Memory.{Memory};
 ghost use Rattle.machine.specs.Loading.{loaded_file};
 ghost use Rattle.machine.specs.Program.{start};
-ghost use Rattle.machine.specs.Progress.{advanced, begun, progress};
+ghost use Rattle.machine.specs.Progress.{advanced, first_state, progress};
 ghost use Rattle.machine.specs.Step.{State, step};
 ghost use Rattle.machine.specs.declared.place.Place.TheVariants.{Reg as InReg};
-ghost use Rattle.rv_step.specs.Harts.{hart_of, with_memory, LeadsIn};
-ghost use Rattle.rv_step.specs.Known.{goes_on, struck_progress, state_word, AreMade, IsMade, IsPart};
-ghost use Rattle.rv_step.specs.Reached.{AreWords};
-ghost use Rattle.rv_step.specs.Windows.{HasWords, IsHeld, IsKnown, IsTable, IsWindow};
+ghost use Rattle.rv_step.specs.Harts.{hart_state_of, with_memory, LeadsIn};
+ghost use Rattle.rv_step.specs.Known.{does_step, struck_progress, state_word, AreMade, IsRunMade, IsPart};
+ghost use Rattle.rv_step.specs.Reached.{IsRunOfWords};
+ghost use Rattle.rv_step.specs.Windows.{WindowHasWords, IsHeld, IsKnown, IsTable, IsWindow};
 
 use crate::decoder::Decoder;
 use crate::range::Ranges;
@@ -41,20 +41,20 @@ pub struct Hart {
 }
 
 impl Model for Hart {
-    ghost use Rattle.rv_step.specs.Harts.{HartState, hart_code};
+    ghost use Rattle.rv_step.specs.Harts.{HartState, hart_state_code};
 
     ghost Value = { HartState };
 
-    ghost coded = { hart_code };
+    ghost coded = { hart_state_code };
 
     ghost view = { λ h. record { regs = h.regs; pc = h.pc; ranges = h.ranges; outcome = h.outcome; steps = h.steps } };
 }
 
 impl Hart {
-    /// The hart that a file starts: the pc at the entry, the file's code ranges, and x0 at 0 whatever the first number is. It goes
-    /// on, and no step was made.
+    /// The hart that a file starts: the pc at the entry, the file's code ranges, and x0 at 0 whatever the first number
+    /// is. It goes on, and no step was made.
     pub fn start(alloc: Global, file: &ElfFile, regs: &[u64; 32]) -> Result<Hart, AllocError>
-        ensures { IfOk result (λ hart. hart ≡ hart_of (begun (start (loaded_file file.now) regs.now))) }
+        ensures { IfOk result (λ hart. hart ≡ hart_state_of (first_state (start (loaded_file file.now) regs.now))) }
     {
         Ok(Hart {
             regs: Regs::new(regs),
@@ -66,14 +66,14 @@ impl Hart {
         })
     }
 
-    /// One step in a memory, as far as the hart goes on, and how it stands then (RISC-V unprivileged manual, RV64I and the M
+    /// One step in a memory, if the hart goes on, and how it stands then (RISC-V unprivileged manual, RV64I and the M
     /// extension). A step that ends, fires or traps changes nothing but the outcome, and is counted.
     #[tactic(auto, using(crate::proofs::Running::stays, crate::proofs::Running::made_none, crate::proofs::Running::step_made, crate::proofs::Running::made_counted, crate::proofs::Running::one_run, crate::proofs::WindowLaws::step_acts))]
     pub fn step(&mut self, image: &mut Image) -> Result<Outcome, AllocError>
         ensures step { IfOk result (λ _. with_memory self.new image.new ≡ advanced (with_memory self.old image.old)) }
         ensures outcome { IfOk result (λ o. o ≡ self.new.outcome) }
 
-        // Where there is no memory for a page, nothing changes.
+        // Without memory for a page, nothing changes.
         ensures kept { IfErr result (λ _. self.new ≡ self.old) }
         ensures memory { IfErr result (λ _. image.new ≡ image.old) }
     {
@@ -91,19 +91,19 @@ impl Hart {
         ensures run { IfOk result (λ _. with_memory self.new image.new ≡ progress (with_memory self.old image.old) n) }
         ensures outcome { IfOk result (λ o. o ≡ self.new.outcome) }
 
-        // Where there is no memory for a page, the steps before were made.
+        // Without memory for a page, the steps before were made.
         ensures part { IfErr result (λ _. IsPart (with_memory self.old image.old) n (with_memory self.new image.new)) }
     {
         self.run_made(image, n)?;
         Ok(self.outcome)
     }
 
-    /// The same, and how many steps were made: as many as the number says, or fewer where the hart stopped.
+    /// Runs in a memory, and counts the steps that were made: as many as the number says, or fewer if the hart stopped.
     pub fn run_made(&mut self, image: &mut Image, n: u64) -> Result<u64, AllocError>
         ensures run { IfOk result (λ _. with_memory self.new image.new ≡ progress (with_memory self.old image.old) n) }
         ensures made { IfOk result (λ made. AreMade (with_memory self.old image.old) n made) }
 
-        // Where there is no memory for a page, the steps before were made.
+        // Without memory for a page, the steps before were made.
         ensures part { IfErr result (λ _. IsPart (with_memory self.old image.old) n (with_memory self.new image.new)) }
     {
         let (made, done) = self.run_uncounted(image, n);
@@ -112,12 +112,12 @@ impl Hart {
         Ok(made)
     }
 
-    /// The same, but for the hart's count of steps, which stays: the answer has how many were made. Where the run is over sooner, the
-    /// hart stopped, or there was no memory for a page.
+    /// Runs in a memory, and leaves the hart's own count; the answer has how many steps were made. If there are fewer,
+    /// the hart stopped, or memory for a page ran out.
     fn run_uncounted(&mut self, image: &mut Image, n: u64) -> (u64, Result<(), AllocError>)
-        ensures made { IsMade (with_memory self.old image.old) result.0 (with_memory self.new image.new) }
+        ensures made { IsRunMade (with_memory self.old image.old) result.0 (with_memory self.new image.new) }
         ensures within { result.0 ≤ n }
-        ensures stopped { IfOk result.1 (λ _. result.0 < n → goes_on self.new.outcome ≡ false) }
+        ensures stopped { IfOk result.1 (λ _. result.0 < n → does_step self.new.outcome ≡ false) }
         ensures part { IfErr result.1 (λ _. result.0 < n) }
     {
         if n <= FEW {
@@ -132,12 +132,12 @@ impl Hart {
         (n - rest, done)
     }
 
-    /// The same, but the answer has how many steps are left, so that the loop has one counter. Each word is sought in a window.
+    /// Runs, with each word sought in a window. The answer: how many steps are left, so that the loop has one counter.
     #[inline(never)]
     fn run_few(&mut self, image: &mut Image, n: u64) -> (u64, Result<(), AllocError>)
-        ensures made { IsMade (with_memory self.old image.old) (n - result.0) (with_memory self.new image.new) }
+        ensures made { IsRunMade (with_memory self.old image.old) (n - result.0) (with_memory self.new image.new) }
         ensures within { result.0 ≤ n }
-        ensures stopped { IfOk result.1 (λ _. 0 < result.0 → goes_on self.new.outcome ≡ false) }
+        ensures stopped { IfOk result.1 (λ _. 0 < result.0 → does_step self.new.outcome ≡ false) }
         ensures part { IfErr result.1 (λ _. 0 < result.0) }
     {
         let window = Window::none();
@@ -145,12 +145,12 @@ impl Hart {
         self.run_by(image, &mut Words { window, more }, n)
     }
 
-    /// The same, with a table of instructions, where there is memory for one.
+    /// Runs with a table of instructions, if there is memory for one. The answer has how many steps are left.
     #[inline(never)]
     fn run_long(&mut self, image: &mut Image, n: u64) -> (u64, Result<(), AllocError>)
-        ensures made { IsMade (with_memory self.old image.old) (n - result.0) (with_memory self.new image.new) }
+        ensures made { IsRunMade (with_memory self.old image.old) (n - result.0) (with_memory self.new image.new) }
         ensures within { result.0 ≤ n }
-        ensures stopped { IfOk result.1 (λ _. 0 < result.0 → goes_on self.new.outcome ≡ false) }
+        ensures stopped { IfOk result.1 (λ _. 0 < result.0 → does_step self.new.outcome ≡ false) }
         ensures part { IfErr result.1 (λ _. 0 < result.0) }
     {
         if self.pc % 4 != 0 {
@@ -163,7 +163,7 @@ impl Hart {
         self.run_by(image, &mut Instructions { window, table }, n)
     }
 
-    /// The same, with what each step has its instruction from. All steps are made here, so that LLVM makes one loop of them.
+    /// Runs with instructions from a source. All steps are made here, so that LLVM makes one loop of them.
     #[inline(always)]
     #[tactic(auto, using(crate::proofs::Running::none_left, crate::proofs::Running::step_left))]
     fn run_by<S: Source>(
@@ -173,9 +173,9 @@ impl Hart {
         n: u64,
     ) -> (u64, Result<(), AllocError>)
         requires { S.stands (with_memory self.old image.old).state source.old }
-        ensures made { IsMade (with_memory self.old image.old) (n - result.0) (with_memory self.new image.new) }
+        ensures made { IsRunMade (with_memory self.old image.old) (n - result.0) (with_memory self.new image.new) }
         ensures within { result.0 ≤ n }
-        ensures stopped { IfOk result.1 (λ _. 0 < result.0 → goes_on self.new.outcome ≡ false) }
+        ensures stopped { IfOk result.1 (λ _. 0 < result.0 → does_step self.new.outcome ≡ false) }
         ensures part { IfErr result.1 (λ _. 0 < result.0) }
     {
         if !self.goes_on() {
@@ -196,7 +196,7 @@ impl Hart {
         (0, Ok(()))
     }
 
-    /// The step of a hart that goes on, with the word at the pc, whose instruction is put into the table where no store changes it.
+    /// A step, with the word at the pc, of a hart that goes on. The table gets its instruction if no store changes it.
     #[tactic(auto, unfolding(machine::specs::Step::step))]
     #[inline(never)]
     pub(crate) fn step_new(
@@ -205,11 +205,11 @@ impl Hart {
         window: &mut Window,
         table: &mut Table,
     ) -> Result<bool, AllocError>
-        requires goes { goes_on self.old.outcome ≡ true }
+        requires goes { does_step self.old.outcome ≡ true }
         requires known { IsKnown (with_memory self.old image.old).state window.old table.old }
         ensures step { IfOk result (λ _. LeadsIn step self.old image.old self.new image.new) }
         ensures known { IfOk result (λ _. IsKnown (with_memory self.new image.new).state window.new table.new) }
-        ensures on { IfOk result (λ on. on ≡ true → goes_on self.new.outcome ≡ true) }
+        ensures on { IfOk result (λ on. on ≡ true → does_step self.new.outcome ≡ true) }
         ensures kept { IfErr result (λ _. self.new ≡ self.old) }
         ensures memory { IfErr result (λ _. image.new ≡ image.old) }
     {
@@ -227,7 +227,7 @@ impl Hart {
     /// The instruction at the pc, where the window has its word.
     #[inline(always)]
     fn held(&self, window: &Window) -> Option<Ins>
-        requires { HasWords window.now }
+        requires { WindowHasWords window.now }
         ensures { IfSome result (λ ins. (s : State) → IsWindow s window.now → IsHeld s self.now.pc ins) }
     {
         let word = window.word(self.pc)?;
@@ -237,7 +237,7 @@ impl Hart {
     /// Puts the instruction at the pc into the table, where the window has it.
     #[inline(never)]
     fn learn_next(&mut self, window: &Window, table: &mut Table)
-        requires { HasWords window.now }
+        requires { WindowHasWords window.now }
         ensures table { (s : State) → IsTable s table.old → IsWindow s window.now → IsTable s table.new }
         ensures same { self.new ≡ self.old }
     {
@@ -267,7 +267,7 @@ impl Hart {
         self.look(image, window, more)
     }
 
-    /// The same, with a new window where `more` steps may follow.
+    /// The word at the pc, with a new window if `more` steps may follow.
     #[inline(never)]
     #[tactic(auto, using(crate::proofs::Fetching::fetched_grain))]
     fn look(&mut self, image: &mut Image, window: &mut Window, more: bool) -> Option<u32>
@@ -284,8 +284,8 @@ impl Hart {
         Some(word)
     }
 
-    /// A window on the code at the pc, a multiple of 4, where it stands on a page that may not be written, there is memory for it,
-    /// and `more` steps may follow.
+    /// A window on the code at the pc, a multiple of 4, if it stands on a page that may not be written, there is memory
+    /// for it, and `more` steps may follow.
     fn window(&self, image: &Image, more: bool) -> Window
         requires { self.now.pc % 4 ≡ 0 }
         ensures { IsWindow (with_memory self.now image.now).state result }
@@ -302,14 +302,14 @@ impl Hart {
 
     /// Whether the hart has not stopped.
     fn goes_on(&self) -> bool
-        ensures { result ≡ goes_on self.now.outcome }
+        ensures { result ≡ does_step self.now.outcome }
     {
         matches!(self.outcome, Outcome::Going)
     }
 
     /// The first and the last address of code words that are remembered. There are none where the last is the lesser.
     fn near(&self) -> (u64, u64)
-        ensures { AreWords self.now.ranges result.0 result.1 }
+        ensures { IsRunOfWords self.now.ranges result.0 result.1 }
     {
         self.ranges.near()
     }

@@ -2,7 +2,7 @@
 ghost use Rattle.std.specs.Prelude.{◌≡◌, true, IfOk, IfErr};
 ghost use Rattle.machine.specs.Step.{step};
 ghost use Rattle.rv_step.specs.Harts.{with_memory, LeadsIn};
-ghost use Rattle.rv_step.specs.Known.{goes_on};
+ghost use Rattle.rv_step.specs.Known.{does_step};
 
 use crate::hart::Hart;
 use crate::table::Table;
@@ -19,11 +19,11 @@ pub(crate) trait Source {
 
     /// The step of a hart that goes on, and whether the hart surely goes on. It is not counted here.
     fn take_step(&mut self, hart: &mut Hart, image: &mut Image) -> Result<bool, AllocError>
-        requires goes { goes_on hart.old.outcome ≡ true }
+        requires goes { does_step hart.old.outcome ≡ true }
         requires stands { stands (with_memory hart.old image.old).state self.old }
         ensures step { IfOk result (λ _. LeadsIn step hart.old image.old hart.new image.new) }
         ensures stands { IfOk result (λ _. stands (with_memory hart.new image.new).state self.new) }
-        ensures on { IfOk result (λ on. on ≡ true → goes_on hart.new.outcome ≡ true) }
+        ensures on { IfOk result (λ on. on ≡ true → does_step hart.new.outcome ≡ true) }
         ensures kept { IfErr result (λ _. hart.new ≡ hart.old) }
         ensures memory { IfErr result (λ _. image.new ≡ image.old) };
 }

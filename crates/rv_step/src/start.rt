@@ -3,8 +3,8 @@ ghost use Rattle.std.specs.Prelude.{◌≡◌, ◌++◌, IfOk, true, false, OnOk
 ghost use Rattle.elf_types.specs.declared.file.Segment.{Segment as ElfSegment};
 ghost use Rattle.machine.specs.Program.{start};
 ghost use Rattle.machine.specs.Loading.{load_segments, loaded_file};
-ghost use Rattle.machine.specs.Progress.{begun};
-ghost use Rattle.mem_image.specs.Overlap.{segment_of, segments_of};
+ghost use Rattle.machine.specs.Progress.{first_state};
+ghost use Rattle.mem_image.specs.Overlap.{plain_segment, segments_of};
 ghost use Rattle.machine.specs.Apart.{AllFitMemory, AreApart};
 
 use crate::hart::Hart;
@@ -47,7 +47,7 @@ impl Machine {
     pub fn start(alloc: Global, file: &ElfFile, regs: &[u64; 32]) -> Result<Machine, AllocError>
         requires fit { AllFitMemory (load_segments file.now.segments) }
         requires apart { AreApart (load_segments file.now.segments) }
-        ensures { IfOk result (λ machine. machine ≡ begun (start (loaded_file file.now) regs.now)) }
+        ensures { IfOk result (λ machine. machine ≡ first_state (start (loaded_file file.now) regs.now)) }
     {
         let specs = specs(alloc, file.segments.as_slice())?;
         let image = Image::of(alloc, &specs)?;

@@ -5,7 +5,7 @@ ghost use Rattle.std.specs.FinMap.{get};
 ghost use Rattle.machine.specs.Program.{start};
 ghost use Rattle.machine.specs.Loading.{load_segments, loaded_file};
 ghost use Rattle.machine.specs.Step.{reg, fetched_at};
-ghost use Rattle.machine.specs.Progress.{advanced, begun, progress};
+ghost use Rattle.machine.specs.Progress.{advanced, first_state, progress};
 ghost use Rattle.machine.specs.Struck.{struck};
 ghost use Rattle.machine.specs.Apart.{AllFitMemory, AreApart};
 ghost use Rattle.rv_step.specs.Harts.{with_memory};
@@ -39,13 +39,13 @@ impl Model for Machine {
 }
 
 impl Machine {
-    /// One step, as far as the machine goes on, and how it stands then (RISC-V unprivileged manual, RV64I and the M
+    /// One step, if the machine goes on, and how it stands then (RISC-V unprivileged manual, RV64I and the M
     /// extension). A step that ends, fires or traps changes nothing but the outcome, and is counted.
     pub fn step(&mut self) -> Result<Outcome, AllocError>
         ensures step { IfOk result (λ _. self.new ≡ advanced self.old) }
         ensures outcome { IfOk result (λ o. o ≡ self.new.state.outcome) }
 
-        // Where there is no memory for a page, nothing changes.
+        // Without memory for a page, nothing changes.
         ensures kept { IfErr result (λ _. self.new ≡ self.old) }
     {
         let outcome = self.hart.step(&mut self.image)?;
@@ -57,14 +57,14 @@ impl Machine {
         ensures run { IfOk result (λ _. self.new ≡ progress self.old n) }
         ensures outcome { IfOk result (λ o. o ≡ self.new.state.outcome) }
 
-        // Where there is no memory for a page, the steps before were made.
+        // Without memory for a page, the steps before were made.
         ensures part { IfErr result (λ _. IsPart self.old n self.new) }
     {
         let outcome = self.hart.run(&mut self.image, n)?;
         Ok(outcome)
     }
 
-    /// The same, and how many steps were made: as many as the number says, or fewer where the machine stopped.
+    /// Runs and counts the steps that were made: as many as the number says, or fewer if the machine stopped.
     pub fn run_made(&mut self, n: u64) -> Result<u64, AllocError>
         ensures run { IfOk result (λ _. self.new ≡ progress self.old n) }
         ensures made { IfOk result (λ made. AreMade self.old n made) }
@@ -109,7 +109,7 @@ impl Machine {
         self.hart.outcome()
     }
 
-    /// The instruction at the pc, or None where no code may be executed there or the word is no instruction.
+    /// The instruction at the pc, or None if no code may be executed there or the word is not one.
     pub fn next(&self) -> Option<Ins>
         ensures { result ≡ known_at self.now.state self.now.state.pc }
     {
@@ -150,8 +150,8 @@ impl Machine {
         }
     }
 
-    /// Whether this machine and another go on in the same state. It may say no where they do, as where their memories have more than
-    /// so many pages.
+    /// Whether this machine and another go on in the same state. It may be false if they do, as when their memories
+    /// have more than `pages` pages.
     pub fn is_beside(&self, other: &Machine, pages: u64) -> bool
         ensures { result ≡ true → self.now.state ≡ other.now.state }
     {

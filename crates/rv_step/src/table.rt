@@ -20,8 +20,8 @@ const LIVES: u64 = 8;
 pub struct Entry {
     ins: Ins,
     address: u64,
-    /// How many instructions with the same place it outlives, so that those of a loop that is longer than the table do not drop one
-    /// another in turn.
+    /// How many instructions with the same place it outlives, so that those of a loop that is longer than the table do
+    /// not drop one another in turn.
     lives: u64,
 }
 
@@ -36,7 +36,7 @@ impl Entry {
         }
     }
 
-    /// The same, which outlives one less.
+    /// This entry, which outlives one less.
     fn older(&self) -> Entry
         ensures address { result.address ≡ self.now.address }
         ensures ins { result.ins ≡ self.now.ins }
@@ -74,7 +74,7 @@ fn slot(address: u64) -> usize
     ((address >> 2) % KEPT as u64) as usize
 }
 
-/// The second place of an address, which all of its low bits tell, for words whose pages or ranges have their first places in common.
+/// The second place of an address, by all of its low bits, for words whose pages or ranges share their first places.
 #[inline(always)]
 fn second_slot(address: u64) -> usize
     ensures { result < 8192 }
@@ -109,7 +109,7 @@ impl Table {
         }
     }
 
-    /// The same, where it is kept at this place.
+    /// The instruction at an address, if this place keeps it.
     #[inline(always)]
     fn at_place(&self, place: usize, address: u64) -> Option<&Ins>
         requires place { place < 8192 }

@@ -1,11 +1,11 @@
 //! A window on the code, in which words are found at once.
 ghost use Rattle.std.specs.Prelude.{◌≡◌, ℕ, ◌%◌, ◌≤◌, true, IfNone, IfSome};
 ghost use Rattle.machine.specs.Step.{State};
-ghost use Rattle.mem_image.specs.Fixed.{IsFixed};
+ghost use Rattle.mem_image.specs.Fixed.{IsFixedCode};
 ghost use Rattle.mem_image.specs.Segments.{has_all};
 ghost use Rattle.rv_step.specs.Known.{state_word};
-ghost use Rattle.rv_step.specs.Reached.{AreWords};
-ghost use Rattle.rv_step.specs.Windows.{HasWords, IsIn, IsWindow, StandsFixed};
+ghost use Rattle.rv_step.specs.Reached.{IsRunOfWords};
+ghost use Rattle.rv_step.specs.Windows.{WindowHasWords, IsIn, IsWindow, StandsFixed};
 
 use mem_image::Code;
 
@@ -34,7 +34,7 @@ impl Window {
 
     /// The words of a page that begin from one address on, up to another.
     pub fn of(code: Code, first: u64, last: u64) -> Window
-        ensures window { (s : State) → s.pc % 4 ≡ 0 → IsFixed s.memory code → AreWords s.ranges first last → IsWindow s result }
+        ensures window { (s : State) → s.pc % 4 ≡ 0 → IsFixedCode s.memory code → IsRunOfWords s.ranges first last → IsWindow s result }
         ensures all { (a : ℕ) → first ≤ a → a ≤ last → has_all code a 4 ≡ true → IsIn result a }
     {
         if code.size() < 4 {
@@ -56,7 +56,7 @@ impl Window {
     #[inline(always)]
     #[tactic(auto, using(crate::proofs::WindowLaws::window_word, crate::proofs::WindowLaws::window_fixed))]
     pub fn word(&self, address: u64) -> Option<u32>
-        requires { HasWords self.now }
+        requires { WindowHasWords self.now }
         ensures word { IfSome result (λ word. (s : State) → IsWindow s self.now → address ≡ s.pc → state_word s address ≡ Some word) }
         ensures fixed { IfSome result (λ word. (s : State) → IsWindow s self.now → StandsFixed s address word) }
         ensures none { IfNone result (¬ (IsIn self.now address)) }

@@ -14,7 +14,7 @@ const NAMES: [&str; 66] = [
     "divw", "divuw", "remw", "remuw",
 ];
 
-/// The name of an instruction in lower case (RISC-V unprivileged manual, instruction listings), and `zero` for the zero word.
+/// The name of an instruction in lower case (RISC-V unprivileged manual, listings), and `zero` for the zero word.
 #[tactic(auto, unfolding(crate::specs::Names::name_of))]
 pub fn name_of(kind: Kind) -> &'static str
     ensures { result.now ≡ name_of kind }

@@ -51,7 +51,7 @@ impl fmt::Display for Operands {
 }
 
 /// The text of a word, without a newline: the name of its instruction and the operands, `zero` for the zero word, and
-/// `word 0x` and 8 hexadecimal digits for a word that is no instruction.
+/// `word 0x` and 8 hexadecimal digits for a word that is not an instruction.
 #[tactic(auto, unfolding(crate::specs::Text::text_of))]
 pub fn text_of(alloc: Global, word: u32) -> Result<Bytes, AllocError>
     ensures { IfOk result (λ text. text ≡ text_of word) }

@@ -7,7 +7,7 @@ use Rattle.tests.specs.declared.admit.AdmitError.{AdmitError}
 use Rattle.tests.specs.declared.admit.AdmitError.TheVariants as error
 use Rattle.tests.specs.declared.options.Options.{Options}
 use Rattle.tests.specs.Admission.Terms.{image_segments, Segment, ElfFile}
-use Rattle.tests.specs.Admission.DataRanges.{is_executed, rounded, do_meet, meets_code, is_in, is_in_any, joined}
+use Rattle.tests.specs.Admission.DataRanges.{is_executed, rounded, do_meet, meets_code, is_in, is_in_any, joined_ranges}
 use Rattle.tests.specs.Admission.Rules.{is_mixed}
 use Rattle.tests.specs.Admission.Refusals.{HasFault, place_of, IsRefusedBy}
 use Rattle.tests.specs.Admission.Places.{image_of}
@@ -17,7 +17,7 @@ use Rattle.tests.proofs.Lemmas.{Spaced, AllSome, AllRoom, in_from, in_parts, in_
 use Rattle.qed_model.proofs.Lemmas.{same_tests}
 use Rattle.tests.specs.declared.range.Span.{Span}
 use Rattle.tests.specs.Ranges.{spans}
-use Rattle.test_admission.specs.DataSpans.{code_parts, AreCode}
+use Rattle.test_admission.specs.DataSpans.{executed_spans, AreCode}
 use Rattle.test_admission.specs.Order.{PassesBelow}
 use Rattle.test_admission.proofs.Firsts.{found, none_found, none_first}
 use Rattle.test_admission.proofs.OrderLaws.{passes_more, refused}
@@ -45,7 +45,7 @@ meets_same : (r : ℕ × ℕ) (rs ts : List (ℕ × ℕ)) → r.0 < r.1 → AllS
 meets_same r rs ts some a b same = same_tests _ _ (meets_through r rs ts some a same) (meets_through r ts rs some b (λ q. sym (same q)))
 
 -- ---- code
-executed_parts : (r : ℕ × ℕ) (image : List Segment) → list_any (λ t. is_executed t && do_meet r (rounded t)) image ≡ list_any (do_meet r) (code_parts image)
+executed_parts : (r : ℕ × ℕ) (image : List Segment) → list_any (λ t. is_executed t && do_meet r (rounded t)) image ≡ list_any (do_meet r) (executed_spans image)
 executed_parts r [] = refl
 executed_parts r (s ∷ ss) =
     elim (is_executed s) as (λ b. ((b && do_meet r (rounded s)) || list_any (λ t. is_executed t && do_meet r (rounded t)) ss) ≡ list_any (do_meet r) (map rounded (cond b (s ∷ filter is_executed ss) (filter is_executed ss)))) [
@@ -53,12 +53,12 @@ executed_parts r (s ∷ ss) =
       | false ↦ executed_parts r ss
     ]
 
-some_code : (image : List Segment) → AllRoom image → AllSome (code_parts image)
+some_code : (image : List Segment) → AllRoom image → AllSome (executed_spans image)
 some_code [] h = tt
 some_code (s ∷ ss) h = elim (is_executed s) as (λ b. AllSome (map rounded (cond b (s ∷ filter is_executed ss) (filter is_executed ss)))) [ true ↦ (omega (arith, h.0), some_code ss h.1) | false ↦ some_code ss h.1 ]
 
-some_joined : (rs : List (ℕ × ℕ)) → AllSome rs → AllSome (joined rs)
-some_joined rs h = of 0 (joined rs) (spaced-joined rs h) where
+some_joined : (rs : List (ℕ × ℕ)) → AllSome rs → AllSome (joined_ranges rs)
+some_joined rs h = of 0 (joined_ranges rs) (spaced-joined rs h) where
   of : (low : ℕ) (ts : List (ℕ × ℕ)) → Spaced low ts → AllSome ts
   of low [] s = tt
   of low (t ∷ ts) s = (s.1, of (t.1 + 1) ts s.2)
@@ -69,7 +69,7 @@ meets_joined ss code s h room =
     let image = image_segments ss in
     let some = some_code image (image_room ss) in
     ap (list_any (do_meet (rounded s))) h.ranges
-    ∙ meets_same (rounded s) (joined (code_parts image)) (code_parts image) (omega (arith, room)) (some_joined (code_parts image) some) some (λ q. in_any-joined q (code_parts image) some)
+    ∙ meets_same (rounded s) (joined_ranges (executed_spans image)) (executed_spans image) (omega (arith, room)) (some_joined (executed_spans image) some) some (λ q. in_any-joined q (executed_spans image) some)
     ∙ sym (executed_parts (rounded s) image)
 
 -- ---- the rule

@@ -7,7 +7,7 @@ use Rattle.std.proofs.lemmas.List.Elements.{All-nil, All-cons}
 use Rattle.tests.specs.declared.admit.AdmitError.{AdmitError}
 use Rattle.tests.specs.declared.admit.AdmitError.TheVariants as error
 use Rattle.tests.specs.declared.options.Options.{Options}
-use Rattle.machine.specs.Below.{first, IsFirstBelow}
+use Rattle.machine.specs.Below.{first_below, IsFirstBelow}
 use Rattle.machine.specs.Table.{decode_of, Ins}
 use Rattle.machine.specs.Step.{target}
 use Rattle.machine.specs.Program.{LoadSegment}
@@ -26,7 +26,7 @@ use Rattle.test_admission.specs.declared.rules.CodeRule.{CodeRule}
 use Rattle.test_admission.specs.declared.rules.CodeRule.TheVariants as rule
 use Rattle.test_admission.specs.declared.stretches.Stretch.{Stretch}
 use Rattle.test_admission.specs.Order.{PassesBelow}
-use Rattle.test_admission.specs.Stretches.{Part, parts_of, span_of, Reads, AllFit, Follow, AreCodeOf}
+use Rattle.test_admission.specs.Stretches.{Part, stretch_parts, part_span, ReadsImage, AllEndBelow, Follow, AreCodeOf}
 use Rattle.tests.specs.Words.{word_in}
 use Rattle.test_admission.specs.Faults.{is_at_fault, faults_at, placed_word, first_in, first_among, HasHigh}
 use Rattle.test_admission.proofs.FirstFault.{none_case}
@@ -34,7 +34,7 @@ use Rattle.test_admission.proofs.OrderLaws.{passes_more, refused}
 
 -- ---- words
 -- word k of a part is that of the image
-pub part_word : (ls : List LoadSegment) (p : Part) (k : ℕ) → Reads ls p → k < p.size / 4 → word_in p.bytes (4 * k) ≡ number_among ls (p.start + 4 * k) 4
+pub part_word : (ls : List LoadSegment) (p : Part) (k : ℕ) → ReadsImage ls p → k < p.size / 4 → word_in p.bytes (4 * k) ≡ number_among ls (p.start + 4 * k) 4
 part_word ls p k r lt =
     let n = by_bytes ls (p.start + 4 * k) in
     let b0 = r.bytes (4 * k) (omega (arith, lt)) in
@@ -56,29 +56,29 @@ record PlaceIn (p : Part) (q : ℕ) : Type 0 where
   below : place < p.size / 4
   is : q ≡ p.start + 4 * place
 
-place_in : (p : Part) (q : ℕ) → p.start % 4 ≡ 0 → p.size % 4 ≡ 0 → q % 4 ≡ 0 → is_in (span_of p) q ≡ true → PlaceIn p q
+place_in : (p : Part) (q : ℕ) → p.start % 4 ≡ 0 → p.size % 4 ≡ 0 → q % 4 ≡ 0 → is_in (part_span p) q ≡ true → PlaceIn p q
 place_in p q a b c h =
-    let i = in_parts (span_of p) q h in
+    let i = in_parts (part_span p) q h in
     record { place = (q - p.start) / 4; below = omega (arith, a, b, c, i.0, i.1); is = omega (arith, a, c, i.0) }
 
-from_low : (low : ℕ) (ps : List Part) (q : ℕ) → Follow low ps → is_in_any (map span_of ps) q ≡ true → low ≤ q
+from_low : (low : ℕ) (ps : List Part) (q : ℕ) → Follow low ps → is_in_any (map part_span ps) q ≡ true → low ≤ q
 from_low low [] q h e = absurd (false≢true e)
 from_low low (p ∷ ps) q h e =
     ⊎_elim
-    (λ x. let i = in_parts (span_of p) q x in omega (arith, i.0, h.0))
+    (λ x. let i = in_parts (part_span p) q x in omega (arith, i.0, h.0))
     (λ x. let l = from_low (p.start + p.size) ps q h.5 x in omega (arith, l, h.0))
-    (or_cases (is_in (span_of p) q) (is_in_any (map span_of ps) q) e)
+    (or_cases (is_in (part_span p) q) (is_in_any (map part_span ps) q) e)
 
 -- ---- the first at fault, of words that a function gives at each address
 module _ (word : ℕ → ℕ) (r : CodeRule) where
   -- what is found of parts from an address on
   record IsFirst (low : ℕ) (ps : List Part) (a found : ℕ) : Type 0 where
     aligned : a % 4 ≡ 0
-    within : is_in_any (map span_of ps) a ≡ true
+    within : is_in_any (map part_span ps) a ≡ true
     small : a < 2 ^ 64
     is : found ≡ word a
     fault : is_at_fault r a (word a) ≡ true
-    least : (q : ℕ) → q < a → q % 4 ≡ 0 → is_in_any (map span_of ps) q ≡ true → is_at_fault r q (word q) ≡ false
+    least : (q : ℕ) → q < a → q % 4 ≡ 0 → is_in_any (map part_span ps) q ≡ true → is_at_fault r q (word q) ≡ false
 
   abbrev HasWords : Part → Type 0
   HasWords p = (k : ℕ) → k < p.size / 4 → word_in p.bytes (4 * k) ≡ word (p.start + 4 * k)
@@ -86,20 +86,20 @@ module _ (word : ℕ → ℕ) (r : CodeRule) where
   fault_same : (p : Part) (k : ℕ) (b : Bool) → HasWords p → k < p.size / 4 → faults_at r p k ≡ b → is_at_fault r (p.start + 4 * k) (word (p.start + 4 * k)) ≡ b
   fault_same p k b w lt e = sym (ap (is_at_fault r (p.start + 4 * k)) (w k lt)) ∙ e
 
-  -- none of a part is
-  none_part : (p : Part) (q : ℕ) → HasWords p → p.start % 4 ≡ 0 → p.size % 4 ≡ 0 → first (p.size / 4) (faults_at r p) ≡ None → q % 4 ≡ 0 → is_in (span_of p) q ≡ true → is_at_fault r q (word q) ≡ false
+  -- no word of a part is at fault
+  none_part : (p : Part) (q : ℕ) → HasWords p → p.start % 4 ≡ 0 → p.size % 4 ≡ 0 → first_below (p.size / 4) (faults_at r p) ≡ None → q % 4 ≡ 0 → is_in (part_span p) q ≡ true → is_at_fault r q (word q) ≡ false
   none_part p q w a b e c h =
       let x = place_in p q a b c h in
       subst (λ z. is_at_fault r z (word z) ≡ false) (sym x.is) (fault_same p x.place false w x.below (each_fails (p.size / 4) (faults_at r p) e x.place x.below))
 
-  pub none_found : (low : ℕ) (ps : List Part) → Follow low ps → Every HasWords ps → first_among r ps ≡ None → (q : ℕ) → q % 4 ≡ 0 → is_in_any (map span_of ps) q ≡ true → is_at_fault r q (word q) ≡ false
+  pub none_found : (low : ℕ) (ps : List Part) → Follow low ps → Every HasWords ps → first_among r ps ≡ None → (q : ℕ) → q % 4 ≡ 0 → is_in_any (map part_span ps) q ≡ true → is_at_fault r q (word q) ≡ false
   none_found low [] h w e q c m = absurd (false≢true m)
   none_found low (p ∷ ps) h w e q c m = by (first_in r p) refl e (λ g. none_found (p.start + p.size) ps h.5 w.1 g q c) where
-    by : (o : Option (ℕ × ℕ)) → first_in r p ≡ o → option_or o (first_among r ps) ≡ None → (first_among r ps ≡ None → is_in_any (map span_of ps) q ≡ true → is_at_fault r q (word q) ≡ false) → is_at_fault r q (word q) ≡ false
+    by : (o : Option (ℕ × ℕ)) → first_in r p ≡ o → option_or o (first_among r ps) ≡ None → (first_among r ps ≡ None → is_in_any (map part_span ps) q ≡ true → is_at_fault r q (word q) ≡ false) → is_at_fault r q (word q) ≡ false
     by (Some d) x g rest = absurd (cc)
-    by None x g rest = ⊎_elim (none_part p q w.0 h.2 h.3 (none_case p (first (p.size / 4) (faults_at r p)) x) c) (rest g) (or_cases (is_in (span_of p) q) (is_in_any (map span_of ps) q) m)
+    by None x g rest = ⊎_elim (none_part p q w.0 h.2 h.3 (none_case p (first_below (p.size / 4) (faults_at r p)) x) c) (rest g) (or_cases (is_in (part_span p) q) (is_in_any (map part_span ps) q) m)
 
-  here_found : (low : ℕ) (p : Part) (ps : List Part) (a found : ℕ) → Follow low (p ∷ ps) → HasWords p → (o : Option ℕ) → first (p.size / 4) (faults_at r p) ≡ o → option_map (placed_word p) o ≡ Some (a, found) → IsFirst low (p ∷ ps) a found
+  here_found : (low : ℕ) (p : Part) (ps : List Part) (a found : ℕ) → Follow low (p ∷ ps) → HasWords p → (o : Option ℕ) → first_below (p.size / 4) (faults_at r p) ≡ o → option_map (placed_word p) o ≡ Some (a, found) → IsFirst low (p ∷ ps) a found
   here_found low p ps a found h w None e g = absurd (cc)
   here_found low p ps a found h w (Some k) e g =
       let f = first_least (p.size / 4) (faults_at r p) k e in
@@ -110,10 +110,10 @@ module _ (word : ℕ → ℕ) (r : CodeRule) where
       let s = h.2 in
       let z = h.3 in
       let fit = h.4 in
-      let here : is_in (span_of p) a ≡ true = in_from (span_of p) a (omega (arith, at)) (omega (arith, at, lt)) in
+      let here : is_in (part_span p) a ≡ true = in_from (part_span p) a (omega (arith, at)) (omega (arith, at, lt)) in
       record {
         aligned = omega (arith, at, s);
-        within = ap (λ b. b || is_in_any (map span_of ps) a) here;
+        within = ap (λ b. b || is_in_any (map part_span ps) a) here;
         small = omega (arith, at, lt, fit);
         is = sym is ∙ w k lt ∙ ap word at;
         fault = subst (λ q. is_at_fault r q (word q) ≡ true) at (fault_same p k true w lt f.passes);
@@ -121,47 +121,47 @@ module _ (word : ℕ → ℕ) (r : CodeRule) where
             ⊎_elim
             (λ x. let y = place_in p q s z c x in let less : y.place < k = (let e1 = y.is in omega (arith, e1, at, l)) in subst (λ q. is_at_fault r q (word q) ≡ false) (sym y.is) (fault_same p y.place false w y.below (f.least y.place less)))
             (λ x. let far = from_low (p.start + p.size) ps q h.5 x in absurd (omega (arith, far, l, at, lt)))
-            (or_cases (is_in (span_of p) q) (is_in_any (map span_of ps) q) m);
+            (or_cases (is_in (part_span p) q) (is_in_any (map part_span ps) q) m);
       }
 
-  later_found : (low : ℕ) (p : Part) (ps : List Part) (a found : ℕ) → Follow low (p ∷ ps) → HasWords p → first (p.size / 4) (faults_at r p) ≡ None → IsFirst (p.start + p.size) ps a found → IsFirst low (p ∷ ps) a found
+  later_found : (low : ℕ) (p : Part) (ps : List Part) (a found : ℕ) → Follow low (p ∷ ps) → HasWords p → first_below (p.size / 4) (faults_at r p) ≡ None → IsFirst (p.start + p.size) ps a found → IsFirst low (p ∷ ps) a found
   later_found low p ps a found h w e f = record {
     aligned = f.aligned;
-    within = or_right (is_in (span_of p) a) (is_in_any (map span_of ps) a) f.within;
+    within = or_right (is_in (part_span p) a) (is_in_any (map part_span ps) a) f.within;
     small = f.small;
     is = f.is;
     fault = f.fault;
-    least = λ q l c m. ⊎_elim (none_part p q w h.2 h.3 e c) (f.least q l c) (or_cases (is_in (span_of p) q) (is_in_any (map span_of ps) q) m);
+    least = λ q l c m. ⊎_elim (none_part p q w h.2 h.3 e c) (f.least q l c) (or_cases (is_in (part_span p) q) (is_in_any (map part_span ps) q) m);
   }
 
   first_found : (low : ℕ) (ps : List Part) (a found : ℕ) → Follow low ps → Every HasWords ps → first_among r ps ≡ Some (a, found) → IsFirst low ps a found
   first_found low [] a found h w e = absurd (cc)
   first_found low (p ∷ ps) a found h w e = by (first_in r p) refl e (first_found (p.start + p.size) ps a found h.5 w.1) where
     by : (o : Option (ℕ × ℕ)) → first_in r p ≡ o → option_or o (first_among r ps) ≡ Some (a, found) → (first_among r ps ≡ Some (a, found) → IsFirst (p.start + p.size) ps a found) → IsFirst low (p ∷ ps) a found
-    by None x g rest = later_found low p ps a found h w.0 (none_case p (first (p.size / 4) (faults_at r p)) x) (rest g)
-    by (Some d) x g rest = here_found low p ps a found h w.0 (first (p.size / 4) (faults_at r p)) refl (x ∙ g)
+    by None x g rest = later_found low p ps a found h w.0 (none_case p (first_below (p.size / 4) (faults_at r p)) x) (rest g)
+    by (Some d) x g rest = here_found low p ps a found h w.0 (first_below (p.size / 4) (faults_at r p)) refl (x ∙ g)
 
 -- ---- stretches
-pub follow_fit : (low : ℕ) (ss : List Stretch) → Follow low (parts_of ss) → AllFit ss
+pub follow_fit : (low : ℕ) (ss : List Stretch) → Follow low (stretch_parts ss) → AllEndBelow ss
 follow_fit low [] h = All-nil (λ s. s.start + s.size ≤ 2 ^ 64)
 follow_fit low (s ∷ ss) h = All-cons (λ t. t.start + t.size ≤ 2 ^ 64) s ss h.4 (follow_fit (s.start + s.size) ss h.5)
 
 -- ---- the code of a file
 module _ (f : ElfFile) (ps : List Part) (code : AreCodeOf f ps) where
   words : Every (λ p. (k : ℕ) → k < p.size / 4 → word_in p.bytes (4 * k) ≡ word_at f (p.start + 4 * k)) ps
-  words = among_every _ ps (λ p m k lt. part_word (loads_of f) p k (all_among (Reads (loads_of f)) p ps code.read m) lt)
+  words = among_every _ ps (λ p m k lt. part_word (loads_of f) p k (all_among (ReadsImage (loads_of f)) p ps code.read m) lt)
 
   abbrev at : CodeRule → ℕ → Bool
   at r a = is_code f a && is_at_fault r a (word_at f a)
 
   -- a code address is a multiple of 4 in a part
-  code_parts : (a : ℕ) → is_code f a ≡ true → (a % 4 ≡ 0) × (is_in_any (map span_of ps) a ≡ true)
+  code_parts : (a : ℕ) → is_code f a ≡ true → (a % 4 ≡ 0) × (is_in_any (map part_span ps) a ≡ true)
   code_parts a e = let p = and_parts (a % 4 == 0) (is_in_any (ranges_of f) a) e in (eqb-true (a % 4) 0 p.0, code.same a ∙ p.1)
 
-  code_from : (a : ℕ) → a % 4 ≡ 0 → is_in_any (map span_of ps) a ≡ true → is_code f a ≡ true
+  code_from : (a : ℕ) → a % 4 ≡ 0 → is_in_any (map part_span ps) a ≡ true → is_code f a ≡ true
   code_from a c m = and_from (a % 4 == 0) (is_in_any (ranges_of f) a) (eq-eqb (a % 4) 0 c) (sym (code.same a) ∙ m)
 
-  not_at : (r : CodeRule) (a : ℕ) → (a % 4 ≡ 0 → is_in_any (map span_of ps) a ≡ true → is_at_fault r a (word_at f a) ≡ false) → at r a ≡ false
+  not_at : (r : CodeRule) (a : ℕ) → (a % 4 ≡ 0 → is_in_any (map part_span ps) a ≡ true → is_at_fault r a (word_at f a) ≡ false) → at r a ≡ false
   not_at r a h = by (is_code f a) refl where
     by : (b : Bool) → is_code f a ≡ b → (b && is_at_fault r a (word_at f a)) ≡ false
     by true e = let p = code_parts a e in h p.0 p.1

@@ -6,7 +6,7 @@ use Rattle.std.proofs.lemmas.List.{get_or_past}
 use Rattle.std.proofs.lemmas.Bool.{cases_lt, or_parts}
 use Rattle.std.proofs.lemmas.Option.{same_Some}
 use Rattle.machine.specs.Table.{ins, ins_of, decode_of, Ins, Illegal}
-use Rattle.machine.specs.Below.{first}
+use Rattle.machine.specs.Below.{first_below}
 use Rattle.machine.proofs.Lemmas.{first_found, first_none, first_least, each_fails}
 use Rattle.test_admission.specs.declared.rules.CodeRule.{CodeRule}
 use Rattle.test_admission.specs.declared.rules.CodeRule.TheVariants as rule
@@ -33,7 +33,7 @@ empty_passes r p k h = ap (is_at_fault r (p.start + 4 * k)) (zero_word p.bytes (
 found_in : (r : CodeRule) (p : Part) (k : ℕ) → k < filled p → faults_at r p k ≡ true → ((j : ℕ) → j < k → faults_at r p j ≡ false) → Some (p.start + 4 * k, word_in p.bytes (4 * k)) ≡ first_in r p
 found_in r p k lt h before = ap (option_map (placed_word p)) (sym (first_found (p.size / 4) (faults_at r p) k (omega (arith, lt)) h before))
 
--- the same of a word that was read
+-- what such a loop finds, of a word that was read
 pub found_word : (r : CodeRule) (p : Part) (k n word : ℕ) → word ≡ word_in p.bytes (4 * k) → k < n → n ≡ filled p → is_at_fault r (p.start + 4 * k) word ≡ true → ((j : ℕ) → j < k → faults_at r p j ≡ false) → Some (p.start + 4 * k, word) ≡ first_in r p
 found_word r p k n word is lt e h before = ap (λ x. Some (p.start + 4 * k, x)) is ∙ found_in r p k (omega (arith, lt, e)) (sym (ap (is_at_fault r (p.start + 4 * k)) is) ∙ h) before
 
@@ -51,9 +51,9 @@ none_case p None e = refl
 none_case p (Some k) e = absurd (cc)
 
 pub each_passes : (r : CodeRule) (p : Part) (k : ℕ) → first_in r p ≡ None → k < p.size / 4 → faults_at r p k ≡ false
-each_passes r p k e lt = each_fails (p.size / 4) (faults_at r p) (none_case p (first (p.size / 4) (faults_at r p)) e) k lt
+each_passes r p k e lt = each_fails (p.size / 4) (faults_at r p) (none_case p (first_below (p.size / 4) (faults_at r p)) e) k lt
 
--- and where none of parts is, none of the first and none of the others
+-- if no part is at fault, neither is the first, nor any of the others
 pub none_split : (r : CodeRule) (p : Part) (ps : List Part) → first_among r (p ∷ ps) ≡ None → (first_in r p ≡ None) × (first_among r ps ≡ None)
 none_split r p ps e = by (first_in r p) refl e where
   by : (o : Option (ℕ × ℕ)) → first_in r p ≡ o → option_or o (first_among r ps) ≡ None → (first_in r p ≡ None) × (first_among r ps ≡ None)
@@ -90,7 +90,7 @@ none_each base ps h = (
 )
 
 -- ---- what is found is at fault
-hit_in : (r : CodeRule) (p : Part) (c : ℕ × ℕ) (o : Option ℕ) → first (p.size / 4) (faults_at r p) ≡ o → option_map (placed_word p) o ≡ Some c → is_at_fault r c.0 c.1 ≡ true
+hit_in : (r : CodeRule) (p : Part) (c : ℕ × ℕ) (o : Option ℕ) → first_below (p.size / 4) (faults_at r p) ≡ o → option_map (placed_word p) o ≡ Some c → is_at_fault r c.0 c.1 ≡ true
 hit_in r p c None e h = absurd (cc)
 hit_in r p c (Some k) e h = subst (λ x. is_at_fault r x.0 x.1 ≡ true) (same_Some (placed_word p k) c h) (first_least (p.size / 4) (faults_at r p) k e).passes
 
@@ -99,4 +99,4 @@ hit_among r [] c h = absurd (cc)
 hit_among r (p ∷ ps) c h = by (first_in r p) refl h (hit_among r ps c) where
   by : (o : Option (ℕ × ℕ)) → first_in r p ≡ o → option_or o (first_among r ps) ≡ Some c → (first_among r ps ≡ Some c → is_at_fault r c.0 c.1 ≡ true) → is_at_fault r c.0 c.1 ≡ true
   by None e x rest = rest x
-  by (Some d) e x rest = hit_in r p c (first (p.size / 4) (faults_at r p)) refl (e ∙ x)
+  by (Some d) e x rest = hit_in r p c (first_below (p.size / 4) (faults_at r p)) refl (e ∙ x)

@@ -7,7 +7,7 @@ use Rattle.std.proofs.lemmas.Bool.{leb-true, leb-false}
 use Rattle.std.proofs.lemmas.Bool.Decides.{nat_tests}
 use Rattle.std.proofs.lemmas.List.Elements.{All-head, All-tail}
 use Rattle.std.proofs.lemmas.List.Sorted.{All-permutation, IsPermutation-map, list_any-IsPermutation}
-use Rattle.tests.specs.Admission.DataRanges.{is_in, is_in_any, joined}
+use Rattle.tests.specs.Admission.DataRanges.{is_in, is_in_any, joined_ranges}
 use Rattle.tests.proofs.Lemmas.{Spaced, AllSome, spaced-joined, in_any-joined, same_ranges}
 use Rattle.tests.specs.declared.range.Span.{Span}
 use Rattle.tests.specs.Ranges.{span, spans}
@@ -77,9 +77,9 @@ module _ (xs ys : List Span) (some : HaveSome xs) (moved : IsPermutation xs ys) 
   pub glued_spaced : Spaced 0 (glued (spans ys))
   glued_spaced = spaced-glued (spans ys) starts
 
-  pub glued_joined : glued (spans ys) ≡ joined (spans xs)
+  pub glued_joined : glued (spans ys) ≡ joined_ranges (spans xs)
   glued_joined =
-      same_ranges 0 0 (glued (spans ys)) (joined (spans xs)) glued_spaced (spaced-joined (spans xs) (some_bounds xs some))
+      same_ranges 0 0 (glued (spans ys)) (joined_ranges (spans xs)) glued_spaced (spaced-joined (spans xs) (some_bounds xs some))
       (λ q.
       in_any-glued q (spans ys) starts
       ∙ sym (list_any-IsPermutation (λ r. is_in r q) (spans xs) (spans ys) (IsPermutation-map span xs ys moved))

@@ -19,7 +19,7 @@ use Rattle.tests.proofs.Lemmas.{Rising, in_parts, in_from, addresses_only, pairs
 use Rattle.test_admission.specs.declared.rules.CodeRule.TheVariants as rule
 use Rattle.test_admission.specs.declared.stretches.Stretch.{Stretch}
 use Rattle.test_admission.specs.Order.{PassesBelow}
-use Rattle.test_admission.specs.Stretches.{Part, part_of, parts_of, span_of, Reads, Follow, AreCodeOf}
+use Rattle.test_admission.specs.Stretches.{Part, part_of, stretch_parts, part_span, ReadsImage, Follow, AreCodeOf}
 use Rattle.test_admission.specs.Faults.{placed_word, first_among}
 use Rattle.test_admission.specs.Words.{words_from, part_words, words_among, word_total, pair_of, pairs_of as pairs, IsDecoded}
 use Rattle.test_admission.proofs.OrderLaws.{passes_more, refused}
@@ -78,7 +78,7 @@ word_among p k (suc n) place l lt =
     (λ x. let e : place ≡ k = omega (arith, x, l) in inl (ap (λ m. p.start + 4 * m) e))
     (cases_lt k place)
 
-listed_in : (low a : ℕ) (ps : List Part) → Follow low ps → Among a (firsts (words_among ps)) → (a % 4 ≡ 0) × (is_in_any (map span_of ps) a ≡ true)
+listed_in : (low a : ℕ) (ps : List Part) → Follow low ps → Among a (firsts (words_among ps)) → (a % 4 ≡ 0) × (is_in_any (map part_span ps) a ≡ true)
 listed_in low a [] h m = absurd m
 listed_in low a (p ∷ ps) h m =
     ⊎_elim
@@ -87,23 +87,23 @@ listed_in low a (p ∷ ps) h m =
     let e = w.is in
     let b = w.below in
     let s = h.2 in
-    (omega (arith, e, s), or_left (is_in (span_of p) a) (is_in_any (map span_of ps) a) (in_from (span_of p) a (omega (arith, e)) (omega (arith, e, b)))))
-    (λ x. let r = listed_in (p.start + p.size) a ps h.5 x in (r.0, or_right (is_in (span_of p) a) (is_in_any (map span_of ps) a) r.1))
+    (omega (arith, e, s), or_left (is_in (part_span p) a) (is_in_any (map part_span ps) a) (in_from (part_span p) a (omega (arith, e)) (omega (arith, e, b)))))
+    (λ x. let r = listed_in (p.start + p.size) a ps h.5 x in (r.0, or_right (is_in (part_span p) a) (is_in_any (map part_span ps) a) r.1))
     (among-either a (firsts (part_words p)) (firsts (words_among ps)) (subst (Among a) (map-append (λ c. c.0) (part_words p) (words_among ps)) m))
 
-in_listed : (low a : ℕ) (ps : List Part) → Follow low ps → a % 4 ≡ 0 → is_in_any (map span_of ps) a ≡ true → Among a (firsts (words_among ps))
+in_listed : (low a : ℕ) (ps : List Part) → Follow low ps → a % 4 ≡ 0 → is_in_any (map part_span ps) a ≡ true → Among a (firsts (words_among ps))
 in_listed low a [] h c m = absurd (false≢true m)
 in_listed low a (p ∷ ps) h c m =
     subst (Among a) (sym (map-append (λ c. c.0) (part_words p) (words_among ps)))
     (⊎_elim
     (λ x.
-    let i = in_parts (span_of p) a x in
+    let i = in_parts (part_span p) a x in
     let s = h.2 in
     let z = h.3 in
     let e : p.start + 4 * ((a - p.start) / 4) ≡ a = omega (arith, i.0, s, c) in
     among-left a (firsts (part_words p)) (firsts (words_among ps)) (subst (λ q. Among q (firsts (part_words p))) e (word_among p 0 (p.size / 4) ((a - p.start) / 4) (omega arith) (omega (arith, i.0, i.1, s, z, c)))))
     (λ x. among-right a (firsts (part_words p)) (firsts (words_among ps)) (in_listed (p.start + p.size) a ps h.5 c x))
-    (or_cases (is_in (span_of p) a) (is_in_any (map span_of ps) a) m))
+    (or_cases (is_in (part_span p) a) (is_in_any (map part_span ps) a) m))
 
 -- ---- so they are the code addresses
 are_addresses : (f : ElfFile) (ps : List Part) → AreCodeOf f ps → AreCodeAddresses f (firsts (words_among ps))
@@ -150,28 +150,28 @@ pub decoded_step : (ws more : List CodeWord) (x : CodeWord) → more ≡ ws ++ x
 decoded_step ws more x e is h = subst (All IsDecoded) (sym e) (All-push IsDecoded ws x h (record { instruction = is }))
 
 -- ---- one stretch more
-rest_parts : (code : List Stretch) (i : ℕ) (d : Stretch) → i < length code → parts_of (drop i code) ≡ part_of (get_or code i d) ∷ parts_of (drop (i + 1) code)
-rest_parts code i d lt = let split : drop i code ≡ get_or code i d ∷ drop (i + 1) code = rw add-one (drop-cons code i d lt) in ap parts_of split
+rest_parts : (code : List Stretch) (i : ℕ) (d : Stretch) → i < length code → stretch_parts (drop i code) ≡ part_of (get_or code i d) ∷ stretch_parts (drop (i + 1) code)
+rest_parts code i d lt = let split : drop i code ≡ get_or code i d ∷ drop (i + 1) code = rw add-one (drop-cons code i d lt) in ap stretch_parts split
 
-pub stretch_step : (code : List Stretch) (i : ℕ) (d : Stretch) (old more all : List (ℕ × ℕ)) → i < length code → more ≡ old ++ part_words (part_of (get_or code i d)) → old ++ words_among (parts_of (drop i code)) ≡ all → more ++ words_among (parts_of (drop (i + 1) code)) ≡ all
+pub stretch_step : (code : List Stretch) (i : ℕ) (d : Stretch) (old more all : List (ℕ × ℕ)) → i < length code → more ≡ old ++ part_words (part_of (get_or code i d)) → old ++ words_among (stretch_parts (drop i code)) ≡ all → more ++ words_among (stretch_parts (drop (i + 1) code)) ≡ all
 stretch_step code i d old more all lt e h =
-    let rest = words_among (parts_of (drop (i + 1) code)) in
+    let rest = words_among (stretch_parts (drop (i + 1) code)) in
     ap (λ xs. xs ++ rest) e
     ∙ append_assoc old (part_words (part_of (get_or code i d))) rest
     ∙ ap (λ ps. old ++ words_among ps) (sym (rest_parts code i d lt))
     ∙ h
 
-pub known_step : (code : List Stretch) (i : ℕ) (d : Stretch) → i < length code → first_among rule.Unknown (parts_of (drop i code)) ≡ None → first_among rule.Unknown (parts_of (drop (i + 1) code)) ≡ None
-known_step code i d lt h = (none_split rule.Unknown (part_of (get_or code i d)) (parts_of (drop (i + 1) code)) (sym (ap (first_among rule.Unknown) (rest_parts code i d lt)) ∙ h)).1
+pub known_step : (code : List Stretch) (i : ℕ) (d : Stretch) → i < length code → first_among rule.Unknown (stretch_parts (drop i code)) ≡ None → first_among rule.Unknown (stretch_parts (drop (i + 1) code)) ≡ None
+known_step code i d lt h = (none_split rule.Unknown (part_of (get_or code i d)) (stretch_parts (drop (i + 1) code)) (sym (ap (first_among rule.Unknown) (rest_parts code i d lt)) ∙ h)).1
 
 -- ---- the words of a list are those of the file
-words_right : (f : ElfFile) (p : Part) (k n : ℕ) → Reads (loads_of f) p → k + n ≤ p.size / 4 → All (λ c. c.1 ≡ word_at f c.0) (words_from p k n)
+words_right : (f : ElfFile) (p : Part) (k n : ℕ) → ReadsImage (loads_of f) p → k + n ≤ p.size / 4 → All (λ c. c.1 ≡ word_at f c.0) (words_from p k n)
 words_right f p k zero r l = All-nil (λ c. c.1 ≡ word_at f c.0)
 words_right f p k (suc n) r l = All-cons (λ c. c.1 ≡ word_at f c.0) (placed_word p k) (words_from p (k + 1) n) (part_word (loads_of f) p k r (omega (arith, l))) (words_right f p (k + 1) n r (omega (arith, l)))
 
-all_right : (f : ElfFile) (ps : List Part) → All (Reads (loads_of f)) ps → All (λ c. c.1 ≡ word_at f c.0) (words_among ps)
+all_right : (f : ElfFile) (ps : List Part) → All (ReadsImage (loads_of f)) ps → All (λ c. c.1 ≡ word_at f c.0) (words_among ps)
 all_right f [] h = All-nil (λ c. c.1 ≡ word_at f c.0)
-all_right f (p ∷ ps) h = All-append (λ c. c.1 ≡ word_at f c.0) (part_words p) (words_among ps) (words_right f p 0 (p.size / 4) (All-head (Reads (loads_of f)) p ps h) (omega arith)) (all_right f ps (All-tail (Reads (loads_of f)) p ps h))
+all_right f (p ∷ ps) h = All-append (λ c. c.1 ≡ word_at f c.0) (part_words p) (words_among ps) (words_right f p 0 (p.size / 4) (All-head (ReadsImage (loads_of f)) p ps h) (omega arith)) (all_right f ps (All-tail (ReadsImage (loads_of f)) p ps h))
 
 firsts_of : (cs : List CodeWord) → map (λ c. c.at) cs ≡ firsts (pairs cs)
 firsts_of [] = refl

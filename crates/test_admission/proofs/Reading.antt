@@ -10,13 +10,13 @@ use Rattle.machine.proofs.Lemmas.{alone, has_from, among_agreed}
 use Rattle.machine.specs.Members.{Among}
 use Rattle.tests.proofs.Lemmas.{among_load}
 use Rattle.test_admission.specs.Read.{AreRead}
-use Rattle.test_admission.specs.Stretches.{Reads, holds_code}
+use Rattle.test_admission.specs.Stretches.{ReadsImage, holds_code}
 
 byte_read : (ls : List LoadSegment) → AreRead ls → (l : LoadSegment) (q : ℕ) → Among l ls → has l q ≡ true → byte_among ls q ≡ slice_index l.bytes (q - l.address)
 byte_read ls r l q m h = ap byte_in (among_agreed ls q (cell_at l q) (λ t k g. ap (λ x. cell_at x q) (alone ls r.apart t l q k m g h)) l m h)
 
 -- ---- a part of a segment
-pub reads_of : (ss : List Segment) → AreRead (load_segments ss) → (s : Segment) (start size : ℕ) → Among s ss → s.kind ≡ 1 → s.address ≤ start → start + size ≤ s.address + s.memory → Reads (load_segments ss) (record { start = start; size = size; bytes = drop (start - s.address) s.bytes })
+pub reads_of : (ss : List Segment) → AreRead (load_segments ss) → (s : Segment) (start size : ℕ) → Among s ss → s.kind ≡ 1 → s.address ≤ start → start + size ≤ s.address + s.memory → ReadsImage (load_segments ss) (record { start = start; size = size; bytes = drop (start - s.address) s.bytes })
 reads_of ss r s start size c k from to = record {
   bytes = λ j lt.
       let q : start - s.address + j ≡ start + j - s.address = omega (arith, from) in

@@ -11,14 +11,14 @@ use Rattle.test_admission.specs.declared.rules.CodeRule.TheVariants as rule
 use Rattle.test_admission.specs.DataSpans.{IsDataOf}
 use Rattle.test_admission.specs.Faults.{first_among}
 use Rattle.test_admission.specs.Places.{ArePlacesOf}
-use Rattle.test_admission.specs.Stretches.{parts_of, AreCodeOf}
+use Rattle.test_admission.specs.Stretches.{stretch_parts, AreCodeOf}
 
 -- the file is admitted, and these are its parts
 pub record IsChecked (f : ElfFile) (o : Options) (c : TestParts) : Type 0 where
   pub admitted : IsAdmitted f o
   pub ranges : spans c.ranges.items ≡ ranges_of f
-  pub code : AreCodeOf f (parts_of c.code.items)
-  pub known : first_among rule.Unknown (parts_of c.code.items) ≡ None
+  pub code : AreCodeOf f (stretch_parts c.code.items)
+  pub known : first_among rule.Unknown (stretch_parts c.code.items) ≡ None
   pub places : ArePlacesOf f c.places
   pub small : c.places.span ≤ MAX_IMAGE_SPAN
   pub spans : IsDataOf (image_of f) c.spans

@@ -3,7 +3,7 @@ use Rattle.std.specs.Prelude.{◌≡◌, ℕ, ◌+◌, ◌*◌, ◌/◌, ◌&&�
 use Rattle.std.specs.Option.{option_map, option_or}
 use Rattle.tests.specs.declared.admit.AdmitError.{AdmitError}
 use Rattle.tests.specs.declared.admit.AdmitError.TheVariants as error
-use Rattle.machine.specs.Below.{first}
+use Rattle.machine.specs.Below.{first_below}
 use Rattle.machine.specs.Table.{decode_of, Ins}
 use Rattle.machine.specs.Step.{target}
 use Rattle.machine.specs.Offsets.{distance_between}
@@ -20,7 +20,8 @@ faults rule.Unknown a found = is_none found
 faults rule.Registers a found = is_some (high_in found)
 faults rule.Breakpoint a found = passes_at (λ i. is_ebreak i.kind) found
 faults (rule.Constant base) a found = passes_at (λ i. is_auipc i.kind && is_far (distance_between base (target i a))) found
-faults (rule.Any base) a found = is_none found || (is_some (high_in found) || (passes_at (λ i. is_ebreak i.kind) found || passes_at (λ i. is_auipc i.kind && is_far (distance_between base (target i a))) found))
+faults (rule.Any base) a found = is_none found || (is_some (high_in found) || (passes_at (λ i. is_ebreak i.kind) found
+    || passes_at (λ i. is_auipc i.kind && is_far (distance_between base (target i a))) found))
 
 abbrev pub is_at_fault : CodeRule → ℕ → ℕ → Bool
 is_at_fault r a word = faults r a (decode_of word)
@@ -39,7 +40,7 @@ placed_word p k = (p.start + 4 * k, word_in p.bytes (4 * k))
 
 -- the first word of a part that is at fault: its address and the word
 abbrev pub first_in : CodeRule → Part → Option (ℕ × ℕ)
-first_in r p = option_map (placed_word p) (first (p.size / 4) (faults_at r p))
+first_in r p = option_map (placed_word p) (first_below (p.size / 4) (faults_at r p))
 
 -- the first of parts in their order
 abbrev pub first_among : CodeRule → List Part → Option (ℕ × ℕ)

@@ -11,6 +11,6 @@ pub record IsShaped (f : ElfFile) : Type 0 where
   pub sections : (i : ℕ) → passes_at (is_misshapen_section (loads_of f)) (slice_get f.sections i) ≡ false
   pub segments : (i : ℕ) → passes_at (is_misshapen_segment f) (slice_get f.segments i) ≡ false
 
--- an executable segment that has bytes in memory, whose start or size is no multiple of 4
+-- an executable segment with bytes in memory, whose start or size is not a multiple of 4
 abbrev pub is_ragged_code : Segment → Bool
 is_ragged_code s = is_in_image s && (is_executed s && is_ragged (segment_range s))

@@ -17,19 +17,19 @@ pub record Part : Type 0 where
 abbrev pub part_of : Stretch → Part
 part_of s = record { start = s.start; size = s.size; bytes = s.bytes.now }
 
-abbrev pub parts_of : List Stretch → List Part
-parts_of ss = map part_of ss
+abbrev pub stretch_parts : List Stretch → List Part
+stretch_parts ss = map part_of ss
 
 -- no stretch ends past 2^64
-abbrev pub AllFit : List Stretch → Type 0
-AllFit ss = All (λ s. s.start + s.size ≤ 2 ^ 64) ss
+abbrev pub AllEndBelow : List Stretch → Type 0
+AllEndBelow ss = All (λ s. s.start + s.size ≤ 2 ^ 64) ss
 
 -- by its first address and the one behind its last
-abbrev pub span_of : Part → ℕ × ℕ
-span_of p = (p.start, p.start + p.size)
+abbrev pub part_span : Part → ℕ × ℕ
+part_span p = (p.start, p.start + p.size)
 
 -- its bytes are those of the image, where zeros follow them
-pub record Reads (ls : List LoadSegment) (p : Part) : Type 0 where
+pub record ReadsImage (ls : List LoadSegment) (p : Part) : Type 0 where
   pub bytes : (k : ℕ) → k < p.size → slice_index p.bytes k ≡ byte_among ls (p.start + k)
 
 -- an executable segment has all addresses of a range
@@ -37,18 +37,18 @@ abbrev pub holds_code : ℕ × ℕ → LoadSegment → Bool
 holds_code r l = l.flags.execute && (nat_le l.address r.0 && nat_le r.1 (l.address + l.size))
 
 -- one of the segments does
-abbrev pub is_held : List LoadSegment → ℕ × ℕ → Bool
-is_held ls r = list_any (holds_code r) ls
+abbrev pub is_held_code : List LoadSegment → ℕ × ℕ → Bool
+is_held_code ls r = list_any (holds_code r) ls
 
 -- ---- cut, so that none has an address of another
 -- what a part has from an address on, or all of it where it begins behind that
-abbrev pub trimmed : ℕ → Part → Part
-trimmed done p = record { start = max done p.start; size = p.start + p.size - max done p.start; bytes = drop (max done p.start - p.start) p.bytes }
+abbrev pub trimmed_part : ℕ → Part → Part
+trimmed_part done p = record { start = max done p.start; size = p.start + p.size - max done p.start; bytes = drop (max done p.start - p.start) p.bytes }
 
 -- parts in the order of their starts, without what is done
 abbrev pub cut : ℕ → List Part → List Part
 cut done [] = []
-cut done (p ∷ ps) = cond (nat_lt done (p.start + p.size)) (trimmed done p ∷ cut (p.start + p.size) ps) (cut done ps)
+cut done (p ∷ ps) = cond (nat_lt done (p.start + p.size)) (trimmed_part done p ∷ cut (p.start + p.size) ps) (cut done ps)
 
 -- ---- the code of a file
 -- each part begins behind the one before it, and has whole words at multiples of 4
@@ -59,5 +59,5 @@ Follow low (p ∷ ps) = (low ≤ p.start) × (0 < p.size) × (p.start % 4 ≡ 0)
 -- the parts are all code of the file, in ascending order
 pub record AreCodeOf (f : ElfFile) (ps : List Part) : Type 0 where
   pub follow : Follow 0 ps
-  pub read : All (Reads (loads_of f)) ps
-  pub same : (q : ℕ) → is_in_any (map span_of ps) q ≡ is_in_any (ranges_of f) q
+  pub read : All (ReadsImage (loads_of f)) ps
+  pub same : (q : ℕ) → is_in_any (map part_span ps) q ≡ is_in_any (ranges_of f) q

@@ -5,7 +5,7 @@ use Rattle.machine.specs.Table.{decode_of}
 use Rattle.test_admission.specs.Stretches.{Part}
 use Rattle.test_admission.specs.Faults.{placed_word}
 
--- so many words of a part, from number k on
+-- n words of a part, from number k on
 abbrev pub words_from : Part → ℕ → ℕ → List (ℕ × ℕ)
 words_from p k zero = []
 words_from p k (suc n) = placed_word p k ∷ words_from p (k + 1) n

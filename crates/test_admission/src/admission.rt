@@ -1,4 +1,4 @@
-//! Which tests are admitted, and what is told of them.
+//! Which tests are admitted, and their facts.
 ghost use Rattle.std.specs.Prelude.{IfErr, MatchResult};
 ghost use Rattle.tests.specs.Admission.CodeWords.{loads_of};
 ghost use Rattle.tests.specs.Admission.Ends.{HasEnds};
@@ -13,11 +13,11 @@ use elf_types::ElfFile;
 use qed_model::{AdmitError, Options, Test};
 use std::alloc::Global;
 
-/// Tests whether a file is transformed with these options, and tells what is transformed.
+/// Tests whether a file is transformed with these options, and returns what is transformed.
 ///
-/// The options are sound, and the PT_LOAD segments fit into memory and share no byte, as in each file that was read. An error
-/// is the first rule that holds, with its place or number; it is `Memory` where there is no memory. The ends that it tells are
-/// at most 2^64 and below 2^64.
+/// The options are sound, and the PT_LOAD segments fit into memory and share no byte, as in each file that was read. An
+/// error is the first rule that holds, with its place or number; it is `Memory` if memory runs out. The ends in the
+/// answer are at most 2^64 and below 2^64.
 #[tactic(auto, using(crate::proofs::RefusedEnds::cause_ends))]
 pub fn admit(alloc: Global, file: &ElfFile, options: &Options) -> Result<Test, AdmitError>
     requires sound { AreSoundOptions options.now }

@@ -9,7 +9,7 @@ ghost use Rattle.tests.specs.Admission.Refusals.{IsRefusedBy};
 ghost use Rattle.tests.specs.Admission.Places.{image_of};
 ghost use Rattle.tests.specs.Ranges.{span, spans, AreSpaced};
 ghost use Rattle.test_admission.specs.Spans.{HaveSome};
-ghost use Rattle.test_admission.specs.DataSpans.{code_parts, AreCode, IsDataOf};
+ghost use Rattle.test_admission.specs.DataSpans.{executed_spans, AreCode, IsDataOf};
 ghost use Rattle.test_admission.specs.Order.{PassesBelow};
 
 use crate::spans::{joined, meets};
@@ -50,7 +50,7 @@ fn rounded(segment: &Segment) -> Span
 
 /// The segments of the image that are executed, rounded out.
 fn code_parts(alloc: Global, segments: &[Segment]) -> Result<Vec<Span>, AllocError>
-    ensures parts { IfOk result (λ parts. spans parts.items ≡ code_parts (image_segments segments.now)) }
+    ensures parts { IfOk result (λ parts. spans parts.items ≡ executed_spans (image_segments segments.now)) }
     ensures some { IfOk result (λ parts. HaveSome parts.items) }
 {
     let mut parts = Vec::new(alloc);

@@ -1,5 +1,5 @@
-//! The rules on code words, sought only where the file has a byte of the word: every other word is the zero word, which is at
-//! fault by none of them.
+//! The rules on code words, sought only where the file has a byte of the word. Every other word is the zero word, which
+//! breaks none of them.
 ghost use Rattle.std.specs.Prelude.{◌≡◌, ◌+◌, ◌^◌, ◌≤◌, None, All, IfSome, MatchOption, MatchResult, OnOk};
 ghost use Rattle.tests.specs.declared.options.Options.{Options};
 ghost use Rattle.machine.specs.Table.{decode_of};
@@ -9,7 +9,7 @@ ghost use Rattle.tests.specs.Admission.Places.{base_of, image_of};
 ghost use Rattle.test_admission.specs.declared.rules.CodeRule.TheVariants as rule;
 ghost use Rattle.test_admission.specs.Faults.{filled, first_in, first_among, HasHigh};
 ghost use Rattle.test_admission.specs.Order.{PassesBelow};
-ghost use Rattle.test_admission.specs.Stretches.{part_of, parts_of, AllFit, AreCodeOf};
+ghost use Rattle.test_admission.specs.Stretches.{part_of, stretch_parts, AllEndBelow, AreCodeOf};
 
 use crate::rules::{CodeRule, high_in, is_at_fault};
 use crate::stretches::Stretch;
@@ -42,8 +42,8 @@ fn first_in(stretch: &Stretch<'_>, rule: CodeRule) -> Option<(u64, u32)>
 
 /// The first word of all code that is at fault by a rule: its address and the word.
 fn first_among(code: &[Stretch<'_>], rule: CodeRule) -> Option<(u64, u32)>
-    requires { AllFit code.now }
-    ensures { result ≡ first_among rule (parts_of code.now) }
+    requires { AllEndBelow code.now }
+    ensures { result ≡ first_among rule (stretch_parts code.now) }
 {
     for stretch in code {
         if let Some(found) = first_in(stretch, rule) {
@@ -55,23 +55,23 @@ fn first_among(code: &[Stretch<'_>], rule: CodeRule) -> Option<(u64, u32)>
 
 /// The error of the first instruction that reads or writes a register above x13, with the first such register.
 fn first_high(code: &[Stretch<'_>]) -> Option<AdmitError>
-    requires { AllFit code.now }
-    ensures { MatchOption result (first_among rule.Registers (parts_of code.now) ≡ None) (HasHigh (parts_of code.now)) }
+    requires { AllEndBelow code.now }
+    ensures { MatchOption result (first_among rule.Registers (stretch_parts code.now) ≡ None) (HasHigh (stretch_parts code.now)) }
 {
     let (address, word) = first_among(code, CodeRule::Registers)?;
     let register = high_in(word)?;
     Some(AdmitError::RegisterHalf(address, register))
 }
 
-/// Tests the rules on code words, behind those on the shape of code. Constants are tested against a base. Where no rule refuses a word,
-/// each is decoded once.
+/// Tests the rules on code words, behind those on the shape of code. Constants are tested against a base. If no rule
+/// refuses a word, each is decoded once.
 #[tactic(auto, using(crate::proofs::Faulting::follow_fit, crate::proofs::Faulting::refused_unknown, crate::proofs::Faulting::refused_high, crate::proofs::Faulting::refused_break, crate::proofs::Faulting::refused_far, crate::proofs::Faulting::passes_code, crate::proofs::FirstFault::none_each))]
 pub fn check_code(file: &ElfFile, code: &[Stretch<'_>], base: u64) -> Result<(), AdmitError>
-    requires code { AreCodeOf file.now (parts_of code.now) }
+    requires code { AreCodeOf file.now (stretch_parts code.now) }
     requires base { base ≡ base_of (image_of file.now) }
     requires passed { (o : Options) → PassesBelow file.now o 6 }
     ensures order { MatchResult result (λ _. (o : Options) → PassesBelow file.now o 10) (λ e. (o : Options) → IsRefusedBy file.now o e) }
-    ensures known { OnOk result (first_among rule.Unknown (parts_of code.now) ≡ None) }
+    ensures known { OnOk result (first_among rule.Unknown (stretch_parts code.now) ≡ None) }
 {
     if first_among(code, CodeRule::Any(base)).is_none() {
         return Ok(());

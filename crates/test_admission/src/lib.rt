@@ -1,5 +1,5 @@
-//! Which tests are admitted. The rules are tested in their order, each over the whole file before the next, and the first that
-//! holds is the answer; a test of which none holds is told by its code, its data and its places.
+//! Which tests are admitted. The rules are tested in order, each over the whole file before the next. The answer is the
+//! first that holds, or the test: its code, its data and its places.
 #![tactic(auto)]
 
 mod admission;

@@ -1,4 +1,4 @@
-//! A test that was admitted, as it is told.
+//! The test of a file that was admitted.
 ghost use Rattle.std.specs.Prelude.{◌≡◌, ◌++◌, None, map, IfOk};
 ghost use Rattle.tests.specs.Admission.Terms.{image_segments};
 ghost use Rattle.tests.specs.Admission.DataRanges.{range_of};
@@ -9,7 +9,7 @@ ghost use Rattle.test_admission.specs.Checked.{IsChecked};
 ghost use Rattle.test_admission.specs.Made.{AllEnd};
 ghost use Rattle.test_admission.specs.declared.rules.CodeRule.TheVariants as rule;
 ghost use Rattle.test_admission.specs.Faults.{first_among};
-ghost use Rattle.test_admission.specs.Stretches.{parts_of, AreCodeOf};
+ghost use Rattle.test_admission.specs.Stretches.{stretch_parts, AreCodeOf};
 
 use crate::check::TestParts;
 use crate::places::distance;
@@ -64,15 +64,15 @@ fn image(alloc: Global, segments: &[Segment]) -> Result<Segments, AllocError>
 /// All code words of a file.
 #[tactic(auto, using(crate::proofs::Faulting::follow_fit, crate::proofs::Listing::are_words))]
 fn word_list(alloc: Global, file: &ElfFile, code: &[Stretch<'_>]) -> Result<CodeWords, AllocError>
-    requires code { AreCodeOf file.now (parts_of code.now) }
-    requires known { first_among rule.Unknown (parts_of code.now) ≡ None }
+    requires code { AreCodeOf file.now (stretch_parts code.now) }
+    requires known { first_among rule.Unknown (stretch_parts code.now) ≡ None }
     ensures { IfOk result (AreCodeWords file.now) }
 {
     let words = code_words(alloc, code)?;
     Ok(Listed::of(words))
 }
 
-/// What is told of a file that was admitted.
+/// The facts of a file that was admitted.
 #[tactic(auto, using(crate::proofs::Ends::ranges_end, crate::proofs::Ends::spans_end))]
 pub fn make_test(
     alloc: Global,

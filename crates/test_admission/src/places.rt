@@ -26,7 +26,7 @@ pub struct ImagePlaces {
     pub span: u128,
 }
 
-/// The lesser of two addresses, of which the first may be missing.
+/// The lesser of two addresses, or the second if the first is missing.
 fn lower(low: Option<u64>, address: u64) -> u64
     ensures { result ≡ lower low address }
 {

@@ -18,7 +18,7 @@ const REACH: u64 = 1 << 28;
 /// A rule on code words.
 #[derive(Clone, Copy, PartialEq, Eq)]
 pub enum CodeRule {
-    /// The word is no instruction.
+    /// The word is not an instruction.
     Unknown,
     /// The instruction reads or writes a register above x13.
     Registers,
@@ -58,8 +58,8 @@ pub fn high_in(word: u32) -> Option<Reg>
     high_register(&instruction)
 }
 
-/// Whether the address of an instruction plus its immediate, modulo 2^64, is out of reach of a base: the distance, read as
-/// signed, is below -2^28 or at least 2^28.
+/// Whether the address of an instruction plus its immediate, modulo 2^64, is out of reach of a base: the distance, read
+/// as signed, is below -2^28 or at least 2^28.
 #[tactic(auto, using(crate::proofs::Far::far_apart))]
 fn is_far(instruction: &Ins, address: u64, base: u64) -> bool
     ensures { result ≡ is_far (distance_between base (target instruction.now address)) }

@@ -1,7 +1,7 @@
 //! Ranges of addresses: joined where they touch or overlap, and sought among joined ones.
 ghost use Rattle.std.specs.Prelude.{◌≡◌, ◌++◌, IfOk};
 ghost use Rattle.std.specs.List.{list_any};
-ghost use Rattle.tests.specs.Admission.DataRanges.{do_meet, joined};
+ghost use Rattle.tests.specs.Admission.DataRanges.{do_meet, joined_ranges};
 ghost use Rattle.tests.specs.Ranges.{span, spans, AreSpaced};
 ghost use Rattle.test_admission.specs.Spans.{glue, glued, HaveSome};
 
@@ -42,7 +42,7 @@ fn glued(alloc: Global, sorted: &[Span]) -> Result<Vec<Span>, AllocError>
 /// Ranges in ascending order, where those that touch or overlap are joined.
 pub fn joined(alloc: Global, mut parts: Vec<Span>) -> Result<Vec<Span>, AllocError>
     requires { HaveSome parts.items }
-    ensures ranges { IfOk result (λ ranges. spans ranges.items ≡ joined (spans parts.items)) }
+    ensures ranges { IfOk result (λ ranges. spans ranges.items ≡ joined_ranges (spans parts.items)) }
     ensures spaced { IfOk result (λ ranges. AreSpaced span ranges.items) }
 {
     parts.sort_unstable_by_key(|part| part.start);

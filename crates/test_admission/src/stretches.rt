@@ -7,7 +7,7 @@ ghost use Rattle.tests.specs.Admission.CodeWords.{loads_of, ranges_of};
 ghost use Rattle.test_admission.specs.Read.{AreRead};
 ghost use Rattle.test_admission.specs.Shape.{IsShaped};
 ghost use Rattle.test_admission.specs.Spans.{HaveSome};
-ghost use Rattle.test_admission.specs.Stretches.{part_of, parts_of, span_of, Reads, holds_code, is_held, trimmed, cut, AreCodeOf};
+ghost use Rattle.test_admission.specs.Stretches.{part_of, stretch_parts, part_span, ReadsImage, holds_code, is_held_code, trimmed_part, cut, AreCodeOf};
 
 use elf_types::{ElfFile, Segment};
 use std::alloc::{AllocError, Global};
@@ -30,7 +30,11 @@ impl<'a> Stretch<'a> {
         requires some { range.start < range.end }
         requires from { segment.now.address ≤ range.start }
         requires to { range.end ≤ segment.now.address + segment.now.memory }
-        ensures { part_of result ≡ record { start = range.start; size = range.end - range.start; bytes = drop (range.start - segment.now.address) segment.now.bytes } }
+        ensures { part_of result ≡ record {
+          start = range.start;
+          size = range.end - range.start;
+          bytes = drop (range.start - segment.now.address) segment.now.bytes;
+        } }
     {
         let (address, _memory) = (segment.address, segment.memory);
         Stretch {
@@ -51,7 +55,7 @@ impl<'a> Stretch<'a> {
     fn trimmed(self, done: u128) -> Stretch<'a>
         requires some { done < self.start + self.size }
         requires fits { self.start + self.size ≤ 2 ^ 64 }
-        ensures { part_of result ≡ trimmed done (part_of self.entry) }
+        ensures { part_of result ≡ trimmed_part done (part_of self.entry) }
     {
         let start = u128::from(self.start);
         if done <= start {
@@ -75,7 +79,9 @@ fn holds(segment: &Segment, range: Span) -> bool
 
 /// The first such segment of type PT_LOAD.
 fn home<'a>(segments: &'a [Segment], range: Span) -> Option<&'a Segment>
-    ensures { MatchOption result (is_held (load_segments segments.now) (span range) ≡ false) (λ s. (is_held (load_segments segments.now) (span range) ≡ true) × Contains segments.now s.now × (s.now.kind ≡ 1) × (holds_code (span range) (load_segment s.now) ≡ true)) }
+    ensures { MatchOption result (is_held_code (load_segments segments.now) (span range) ≡ false) (λ s.
+        (is_held_code (load_segments segments.now) (span range) ≡ true) × Contains segments.now s.now
+        × (s.now.kind ≡ 1) × (holds_code (span range) (load_segment s.now) ≡ true)) }
 {
     for segment in segments {
         if segment.is_load() && holds(segment, range) {
@@ -90,7 +96,9 @@ fn home<'a>(segments: &'a [Segment], range: Span) -> Option<&'a Segment>
 fn stretch_of<'a>(segments: &'a [Segment], range: Span) -> Option<Stretch<'a>>
     requires read { AreRead (load_segments segments.now) }
     requires some { range.start < range.end }
-    ensures { MatchOption result (is_held (load_segments segments.now) (span range) ≡ false) (λ part. (is_held (load_segments segments.now) (span range) ≡ true) × (span_of (part_of part) ≡ span range) × Reads (load_segments segments.now) (part_of part)) }
+    ensures { MatchOption result (is_held_code (load_segments segments.now) (span range) ≡ false) (λ part.
+        (is_held_code (load_segments segments.now) (span range) ≡ true)
+        × (part_span (part_of part) ≡ span range) × ReadsImage (load_segments segments.now) (part_of part)) }
 {
     let segment = home(segments, range)?;
     Some(Stretch::of(segment, range))
@@ -104,8 +112,8 @@ fn stretches_of<'a>(
 ) -> Result<Vec<Stretch<'a>>, AllocError>
     requires read { AreRead (load_segments segments.now) }
     requires some { HaveSome ranges.now }
-    ensures same { IfOk result (λ parts. map span_of (parts_of parts.items) ≡ filter (is_held (load_segments segments.now)) (spans ranges.now)) }
-    ensures read { IfOk result (λ parts. All (Reads (load_segments segments.now)) (parts_of parts.items)) }
+    ensures same { IfOk result (λ parts. map part_span (stretch_parts parts.items) ≡ filter (is_held_code (load_segments segments.now)) (spans ranges.now)) }
+    ensures read { IfOk result (λ parts. All (ReadsImage (load_segments segments.now)) (stretch_parts parts.items)) }
 {
     let mut parts = Vec::new(alloc);
     for range in ranges {
@@ -119,7 +127,7 @@ fn stretches_of<'a>(
 /// Parts in the order of their starts, without what an earlier one has.
 fn cut<'a>(alloc: Global, parts: &[Stretch<'a>]) -> Result<Vec<Stretch<'a>>, AllocError>
     requires { All (λ s. s.start + s.size ≤ 2 ^ 64) parts.now }
-    ensures { IfOk result (λ pieces. parts_of pieces.items ≡ cut 0 (parts_of parts.now)) }
+    ensures { IfOk result (λ pieces. stretch_parts pieces.items ≡ cut 0 (stretch_parts parts.now)) }
 {
     let mut pieces = Vec::new(alloc);
     let mut done = 0;
@@ -143,7 +151,7 @@ pub fn code_stretches<'a>(
     requires read { AreRead (loads_of file.now) }
     requires shaped { IsShaped file.now }
     requires ranges { spans ranges.now ≡ ranges_of file.now }
-    ensures { IfOk result (λ code. AreCodeOf file.now (parts_of code.items)) }
+    ensures { IfOk result (λ code. AreCodeOf file.now (stretch_parts code.items)) }
 {
     let mut parts = stretches_of(alloc, file.segments.as_slice(), ranges)?;
     parts.sort_unstable_by_key(|part| part.start);

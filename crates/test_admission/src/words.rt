@@ -4,7 +4,7 @@ ghost use Rattle.tests.specs.Admission.Refusals.{IsRefusedBy};
 ghost use Rattle.test_admission.specs.declared.rules.CodeRule.TheVariants as rule;
 ghost use Rattle.test_admission.specs.Faults.{first_in, first_among};
 ghost use Rattle.test_admission.specs.Order.{PassesBelow};
-ghost use Rattle.test_admission.specs.Stretches.{part_of, parts_of, AllFit, AreCodeOf};
+ghost use Rattle.test_admission.specs.Stretches.{part_of, stretch_parts, AllEndBelow, AreCodeOf};
 ghost use Rattle.test_admission.specs.Words.{part_words, words_among, word_total, pairs_of, IsDecoded};
 
 use crate::stretches::Stretch;
@@ -18,8 +18,8 @@ use tests::word_in;
 
 /// How many code words there are.
 fn word_count(code: &[Stretch<'_>]) -> u64
-    requires { word_total (parts_of code.now) < 2 ^ 64 }
-    ensures { result ≡ word_total (parts_of code.now) }
+    requires { word_total (stretch_parts code.now) < 2 ^ 64 }
+    ensures { result ≡ word_total (stretch_parts code.now) }
 {
     let mut count = 0;
     for stretch in code {
@@ -35,7 +35,7 @@ pub fn check_words(
     options: &Options,
     code: &[Stretch<'_>],
 ) -> Result<(), AdmitError>
-    requires code { AreCodeOf file.now (parts_of code.now) }
+    requires code { AreCodeOf file.now (stretch_parts code.now) }
     requires passed { PassesBelow file.now options.now 13 }
     ensures { MatchResult result (λ _. PassesBelow file.now options.now 14) (λ e. IsRefusedBy file.now options.now e) }
 {
@@ -66,9 +66,9 @@ fn push_words(words: &mut Vec<CodeWord>, stretch: &Stretch<'_>) -> Result<(), Al
 
 /// All words of the code, in ascending order.
 pub fn code_words(alloc: Global, code: &[Stretch<'_>]) -> Result<Vec<CodeWord>, AllocError>
-    requires fits { AllFit code.now }
-    requires known { first_among rule.Unknown (parts_of code.now) ≡ None }
-    ensures words { IfOk result (λ words. pairs_of words.items ≡ words_among (parts_of code.now)) }
+    requires fits { AllEndBelow code.now }
+    requires known { first_among rule.Unknown (stretch_parts code.now) ≡ None }
+    ensures words { IfOk result (λ words. pairs_of words.items ≡ words_among (stretch_parts code.now)) }
     ensures decoded { IfOk result (λ words. All IsDecoded words.items) }
 {
     let mut words = Vec::new(alloc);

@@ -11,7 +11,7 @@ use Rattle.qed_model.proofs.ExampleCode as made
 use Rattle.qed_model.proofs.Lemmas.{IsCodeOf}
 use Rattle.tests.proofs.Lemmas.{one_file}
 use Rattle.test_gen.specs.Code.{function_count, code}
-use Rattle.test_gen.specs.Generated.{code_bytes, table_bytes, data_bytes, symbols, file_with, generated}
+use Rattle.test_gen.specs.Generated.{code_bytes, generated_table_bytes, data_bytes, symbols, generated_file_of, generated}
 use Rattle.test_gen.proofs.Functions.{length-code}
 use Rattle.test_gen.proofs.Sizes.{length-code_bytes, length-table_bytes, length-data_bytes}
 use Rattle.test_gen.proofs.Plain.{code_plain}
@@ -21,14 +21,14 @@ use Rattle.test_gen.proofs.Shape.{file_of, AreSized}
 
 module _ (seed n x y z : ℕ) (some : 1 ≤ n) (few : n ≤ 1875) where
   abbrev f : ElfFile
-  f = file_of (code_bytes seed n) (table_bytes n) data_bytes (null_symbol ∷ symbols n) x y z
+  f = file_of (code_bytes seed n) (generated_table_bytes n) data_bytes (null_symbol ∷ symbols n) x y z
 
   -- how long its segments are
-  pub sized : AreSized n (code_bytes seed n) (table_bytes n) data_bytes
+  pub sized : AreSized n (code_bytes seed n) (generated_table_bytes n) data_bytes
   sized = record { some = some; few = few; code_size = length-code_bytes seed n; table_size = length-table_bytes n; words_size = length-data_bytes }
 
   image : IsImage f 0x10000 (code_bytes seed n)
-  image = shape.code_image n (code_bytes seed n) (table_bytes n) data_bytes (null_symbol ∷ symbols n) x y z sized
+  image = shape.code_image n (code_bytes seed n) (generated_table_bytes n) data_bytes (null_symbol ∷ symbols n) x y z sized
 
   -- its code is that of `main` and of the functions
   pub is_code_of : IsCodeOf f 0x10000 (code seed n)
@@ -42,7 +42,7 @@ module _ (seed n x y z : ℕ) (some : 1 ≤ n) (few : n ≤ 1875) where
   pub file_admitted : IsAdmitted f default_options
   file_admitted =
       let c = code_bytes seed n in
-      let t = table_bytes n in
+      let t = generated_table_bytes n in
       let s = null_symbol ∷ symbols n in
       let base = shape.base_is n c t data_bytes s x y z sized in
       let high = shape.high_is n c t data_bytes s x y z sized in
@@ -54,10 +54,10 @@ module _ (seed n x y z : ℕ) (some : 1 ≤ n) (few : n ≤ 1875) where
       entry (omega (arith, length-code seed n, few)) (omega (arith, base, high, distance)) (omega (arith, distance)) (omega (arith, base, distance))
 
 -- the file of n functions, when read, is admitted
-with_functions : (seed n : ℕ) → 1 ≤ n → n ≤ 1875 → IsAdmitted (file_read (file_with seed n)) default_options
-unfolding file_with
+with_functions : (seed n : ℕ) → 1 ≤ n → n ≤ 1875 → IsAdmitted (file_read (generated_file_of seed n)) default_options
+unfolding generated_file_of
 with_functions seed n some few =
-    file_admitted seed n (24 * (1 + length (symbols n))) (length (string_table (symbol_names (symbols n)))) (length (string_table (section_names (file_with seed n).sections))) some few
+    file_admitted seed n (24 * (1 + length (symbols n))) (length (string_table (symbol_names (symbols n)))) (length (string_table (section_names (generated_file_of seed n).sections))) some few
 
 -- a generated test has 1 to 1,875 functions
 pub few_functions : (size : ℕ) → 1 ≤ size → size ≤ 60000 → (1 ≤ function_count size) × (function_count size ≤ 1875)

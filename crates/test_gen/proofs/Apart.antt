@@ -11,7 +11,7 @@ use Rattle.tests.proofs.Lemmas.{bytes_of_fit, number_bytes_fit, append_fit, apar
 use Rattle.machine.proofs.Lemmas.{every_among, alone}
 use Rattle.tests.specs.Elf.Sound.{AreLoads, ApartLoads}
 use Rattle.test_gen.specs.Code.{code}
-use Rattle.test_gen.specs.Generated.{generated_word, code_bytes, table_bytes, data_bytes, function_at}
+use Rattle.test_gen.specs.Generated.{generated_word, code_bytes, generated_table_bytes, data_bytes, function_at}
 use Rattle.test_gen.proofs.Shape.{file_of, AreSized}
 
 -- ---- bytes
@@ -24,8 +24,8 @@ pub small_code : (seed n k : ℕ) → slice_index (code_bytes seed n) k < 256
 unfolding code_bytes
 small_code seed n k = bytes_of_fit (map generated_word (code seed n)) k
 
-pub small_table : (n k : ℕ) → slice_index (table_bytes n) k < 256
-unfolding table_bytes
+pub small_table : (n k : ℕ) → slice_index (generated_table_bytes n) k < 256
+unfolding generated_table_bytes
 small_table n k = small_numbers n function_at k
 
 pub small_data : (k : ℕ) → slice_index data_bytes k < 256

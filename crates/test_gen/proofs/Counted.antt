@@ -3,7 +3,7 @@ use Rattle.std.proofs.Common.{◌≡◌, ℕ, zero, suc, ◌+◌, ◌-◌, ◌^�
 use Rattle.elf_types.specs.declared.output.OutFile.{OutFile}
 use Rattle.machine.specs.declared.outcome.Outcome.TheVariants.{Going, Ended}
 use Rattle.machine.specs.Step.{State, step_at, step, run}
-use Rattle.machine.specs.Progress.{Progress, counted, steps_after, advanced, progress, begun}
+use Rattle.machine.specs.Progress.{Progress, one_more, steps_after, advanced, progress, first_state}
 use Rattle.tests.specs.Files.File.{IsReadAs}
 use Rattle.tests.specs.Elf.FileRead.{file_read}
 use Rattle.tests.specs.Elf.Layout.{written}
@@ -40,7 +40,7 @@ ended_stays (suc m) s k e = ap (λ p. progress p m) (ended_step s k e) ∙ ended
 going_step : (s : State) (k : ℕ) → s.outcome ≡ Going → k + 1 < 2 ^ 64 → advanced (made s k) ≡ made (step s) (k + 1)
 unfolding advanced
 going_step s k g small =
-    let one : counted k ≡ k + 1 = omega (arith, small) in
+    let one : one_more k ≡ k + 1 = omega (arith, small) in
     ap (λ o. made (step s) (steps_after o k)) g ∙ ap (made (step s)) one
 
 -- one step closer to the end
@@ -70,7 +70,7 @@ counted_from (suc n) (suc m) k s h few small =
     ∙ ap (made (run (step s) n)) all
 
 -- ---- the end of a run
-pub has_ended : (s : State) (n m : ℕ) → EndsAfter s n → n ≤ m → n < 2 ^ 64 → HasEnded (progress (begun s) m) n
+pub has_ended : (s : State) (n m : ℕ) → EndsAfter s n → n ≤ m → n < 2 ^ 64 → HasEnded (progress (first_state s) m) n
 has_ended s n m h few small =
     let come = counted_from n m 0 s h few (omega (arith, small)) in
     let none : 0 + n ≡ n = omega arith in
@@ -84,7 +84,7 @@ few_steps size some most = let n = few_functions size some most in omega (arith,
 -- from registers 0, the run of the file that its bytes are read as ends
 pub own_ended :
     (seed size m : ℕ) → 1 ≤ size → size ≤ 60000 → 213765 ≤ m → (f : ElfFile) → IsReadAs (written (generated seed size)) f
-    → HasEnded (progress (begun (start (loaded_file f) zeros)) m) (test_steps size)
+    → HasEnded (progress (first_state (start (loaded_file f) zeros)) m) (test_steps size)
 own_ended seed size m some most long f read =
     let few = few_steps size some most in
     has_ended (start (loaded_file f) zeros) (test_steps size) m
@@ -98,19 +98,19 @@ progress_state zero p = refl
 progress_state (suc m) p = progress_state m (advanced p)
 
 -- a run that ends within n steps has ended after them
-ended_within : (s : State) (n m : ℕ) → EndsWithin s n → n ≤ m → (progress (begun s) m).state.outcome ≡ Ended
+ended_within : (s : State) (n m : ℕ) → EndsWithin s n → n ≤ m → (progress (first_state s) m).state.outcome ≡ Ended
 ended_within s n m h few =
     let within = h.within in
     let rest : ℕ = m - h.steps in
     let all : m ≡ h.steps + (m - h.steps) = omega (arith, within, few) in
     let come : run s m ≡ run s h.steps = ap (run s) all ∙ run-more s h.steps rest ∙ run-ended rest (run s h.steps) h.ends in
-    ap (λ (t : State). t.outcome) (progress_state m (begun s) ∙ come) ∙ h.ends
+    ap (λ (t : State). t.outcome) (progress_state m (first_state s) ∙ come) ∙ h.ends
 
 -- the output of a test has ended, from registers 0
 pub output_ended :
     (seed size m : ℕ) → 1 ≤ size → size ≤ 60000 → most_output_steps ≤ m → (out : OutFile)
     → (w : WovenFile (written (generated seed size)) default_options out) → HasSmallCode (written (generated seed size)) out w
-    → (progress (begun (start (loaded_file (file_read out)) zeros)) m).state.outcome ≡ Ended
+    → (progress (first_state (start (loaded_file (file_read out)) zeros)) m).state.outcome ≡ Ended
 output_ended seed size m some most long out w short =
     let ends = (test_weavable seed size some most).ends out w short zeros zeros_start in
     ended_within (start (loaded_file (file_read out)) zeros) most_output_steps m ends long

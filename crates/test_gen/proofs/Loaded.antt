@@ -19,7 +19,7 @@ use Rattle.tests.proofs.Lemmas.{IsShapely, known_instruction, field-number_bytes
 use Rattle.tests.specs.Elf.Sound.{AreLoads}
 use Rattle.test_gen.specs.Code.{function, main, code}
 use Rattle.elf_write.specs.Plain.{segment}
-use Rattle.test_gen.specs.Generated.{function_at, table_bytes}
+use Rattle.test_gen.specs.Generated.{function_at, generated_table_bytes}
 use Rattle.test_gen.proofs.Functions.{length-main, length-functions}
 use Rattle.test_gen.proofs.Sizes.{length-numbers}
 use Rattle.test_gen.proofs.Runs.{HasData}
@@ -84,9 +84,9 @@ cell_first : (s : LoadSegment) (ss : List LoadSegment) (q : ℕ) → s.address �
 cell_first s ss q low high = ap (λ b. cond b (Some (cell_at s q)) (cell_among ss q)) (has_from s q low high)
 
 -- ---- the file
-module _ (seed n : ℕ) (code_part words : List ℕ) (symbols : List Symbol) (x y z : ℕ) (sized : AreSized n code_part (table_bytes n) words) where
+module _ (seed n : ℕ) (code_part words : List ℕ) (symbols : List Symbol) (x y z : ℕ) (sized : AreSized n code_part (generated_table_bytes n) words) where
   abbrev f : ElfFile
-  f = file_of code_part (table_bytes n) words symbols x y z
+  f = file_of code_part (generated_table_bytes n) words symbols x y z
 
   abbrev m : Memory
   m = memory_of (loads_of f)
@@ -95,7 +95,7 @@ module _ (seed n : ℕ) (code_part words : List ℕ) (symbols : List Symbol) (x 
   first = load_segment (segment 5 0x10000 code_part)
 
   abbrev second : LoadSegment
-  second = load_segment (segment 4 0x80000 (table_bytes n))
+  second = load_segment (segment 4 0x80000 (generated_table_bytes n))
 
   abbrev third : LoadSegment
   third = load_segment (segment 6 0x90000 words)
@@ -103,7 +103,7 @@ module _ (seed n : ℕ) (code_part words : List ℕ) (symbols : List Symbol) (x 
   code_end : 0x10000 + length code_part ≤ 0x80000
   code_end = let s = sized.code_size in let k = sized.few in omega (arith, s, k)
 
-  table_end : 0x80000 + length (table_bytes n) ≤ 0x90000
+  table_end : 0x80000 + length (generated_table_bytes n) ≤ 0x90000
   table_end = let s = sized.table_size in let k = sized.few in omega (arith, s, k)
 
   module _ (loads : AreLoads (loads_of f)) where
@@ -133,7 +133,7 @@ module _ (seed n : ℕ) (code_part words : List ℕ) (symbols : List Symbol) (x 
         ap (λ q. allows (λ f. f.read) (get m q)) here ∙ ap (allows (λ f. f.read)) (table_cell (8 * i + j) (omega (arith, h, l))))
 
     table_entries : (i : ℕ) → i < n → number m (0x80000 + 8 * i) 8 ≡ function_at i
-    unfolding table_bytes
+    unfolding generated_table_bytes
     table_entries i h =
         let few = sized.few in
         let size = sized.table_size in

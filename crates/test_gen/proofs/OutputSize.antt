@@ -9,7 +9,7 @@ use Rattle.elf_types.specs.declared.output.OutFile.{OutFile}
 use Rattle.qed_model.specs.declared.plan.EntryRow.{EntryRow}
 use Rattle.tests.specs.Elf.Written.{offset_from, end_from}
 use Rattle.tests.specs.Elf.Layout.{written, own_bytes, own_place, string_table, section_names}
-use Rattle.tests.specs.Admission.Places.{insert_segment, in_order, image_of, half_of, code_place, ElfFile, Segment}
+use Rattle.tests.specs.Admission.Places.{insert_segment, by_address, image_of, half_of, code_place, ElfFile, Segment}
 use Rattle.qed_model.specs.Weave.OutputFile.{original_half, shifted, halves, table_bytes, table_segment, file_sections, file_of}
 use Rattle.qed_model.specs.Weave.OutputParts.{code_segment, map_bytes, is_kept, is_local, may_name_code, at_entry, out_symbol, symbol_group, out_symbols}
 use Rattle.qed_model.specs.Weave.Placed.{entry_at}
@@ -41,9 +41,9 @@ bytes_in-insert s (t ∷ ss) =
       | false ↦ omega (arith, bytes_in-insert s ss)
     ]
 
-pub bytes_in-order : (ss : List Segment) → bytes_in (in_order ss) ≡ bytes_in ss
+pub bytes_in-order : (ss : List Segment) → bytes_in (by_address ss) ≡ bytes_in ss
 bytes_in-order [] = refl
-bytes_in-order (s ∷ ss) = omega (arith, bytes_in-insert s (in_order ss), bytes_in-order ss)
+bytes_in-order (s ∷ ss) = omega (arith, bytes_in-insert s (by_address ss), bytes_in-order ss)
 
 length-insert : (s : Segment) (ss : List Segment) → length (insert_segment s ss) ≡ 1 + length ss
 length-insert s [] = refl
@@ -53,9 +53,9 @@ length-insert s (t ∷ ss) =
       | false ↦ omega (arith, length-insert s ss)
     ]
 
-pub length-order : (ss : List Segment) → length (in_order ss) ≡ length ss
+pub length-order : (ss : List Segment) → length (by_address ss) ≡ length ss
 length-order [] = refl
-length-order (s ∷ ss) = omega (arith, length-insert s (in_order ss), length-order ss)
+length-order (s ∷ ss) = omega (arith, length-insert s (by_address ss), length-order ss)
 
 -- each segment begins less than 4096 bytes behind the one before
 end_below : (at : ℕ) (ss : List Segment) → end_from at ss ≤ at + 4095 * length ss + bytes_in ss

@@ -7,7 +7,7 @@ use Rattle.std.proofs.lemmas.Bool.{and_parts, and_from, leb-true, lt-ltb, le-ltb
 use Rattle.std.proofs.lemmas.Int.{ints}
 use Rattle.rv_isa.specs.declared.profile.TheConstants.{LAST_ORIGINAL}
 use Rattle.rv_isa.specs.Kind.{class_of, writes_rd, reads_rs1, reads_rs2}
-use Rattle.rv_isa.specs.Ins.{nop, named}
+use Rattle.rv_isa.specs.Ins.{nop, named_register}
 use Rattle.machine.specs.Below.{each, gather}
 use Rattle.machine.specs.Table.{R, ins, word_of, encode_of, Ins, Kind, Add, Sub, Xor, Mul, Divu, Addi, Ld, Sd}
 use Rattle.tests.specs.Admission.Terms.{if_high, high_register}
@@ -29,7 +29,7 @@ plain : (i : Ins) → has_word i ≡ true → is_none (high_register i) ≡ true
 plain i w l k = record { word = w; low = l; kind = k }
 
 -- ---- registers
-low_named : (b : Bool) (r : ℕ) → r ≤ LAST_ORIGINAL → if_high (named b r) ≡ None
+low_named : (b : Bool) (r : ℕ) → r ≤ LAST_ORIGINAL → if_high (named_register b r) ≡ None
 low_named true zero h = refl
 low_named true (suc r) h = ap (λ t. if t then Some (suc r) else None) (le-ltb LAST_ORIGINAL (suc r) h)
 low_named false r h = refl

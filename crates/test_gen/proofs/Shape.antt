@@ -13,7 +13,7 @@ use Rattle.tests.specs.Admission.CodeWords.{loads_of, ranges_of}
 use Rattle.tests.specs.Admission.Rules.{is_writable_code, is_misshapen_section, is_misshapen_segment, is_mixed}
 use Rattle.tests.specs.Admission.Places.{base_of, high_of, distance_of, image_of}
 use Rattle.elf_write.specs.Plain.{segment}
-use Rattle.test_gen.specs.Generated.{sections}
+use Rattle.test_gen.specs.Generated.{generated_sections}
 use Rattle.test_gen.proofs.Stands.{IsImage, field_first}
 
 -- the file that is read, by the bytes of its three segments; tables may have any size
@@ -22,9 +22,9 @@ file_of code table words symbols x y z = record {
   entry = 0x10000;
   flags = 0;
   segments = segment 5 0x10000 code ∷ segment 4 0x80000 table ∷ segment 6 0x90000 words ∷ [];
-  sections =
+  generated_sections =
       null_section
-      ∷ (map section_read (sections (segment 5 0x10000 code) (segment 4 0x80000 table) (segment 6 0x90000 words))
+      ∷ (map section_read (generated_sections (segment 5 0x10000 code) (segment 4 0x80000 table) (segment 6 0x90000 words))
       ++ (table_read symtab_name SHT_SYMTAB x ∷ table_read strtab_name SHT_STRTAB y ∷ table_read shstrtab_name SHT_STRTAB z ∷ []));
   symbols = symbols;
   relas = [];

@@ -5,7 +5,7 @@ use Rattle.machine.specs.Below.{gather}
 use Rattle.machine.specs.Numbers.{number_bytes}
 use Rattle.tests.proofs.Lemmas.{length-number_bytes, length-bytes_of}
 use Rattle.test_gen.specs.Code.{code}
-use Rattle.test_gen.specs.Generated.{generated_word, code_bytes, function_at, table_bytes, data_bytes}
+use Rattle.test_gen.specs.Generated.{generated_word, code_bytes, function_at, generated_table_bytes, data_bytes}
 use Rattle.test_gen.proofs.Functions.{length-code}
 
 -- numbers of 8 bytes, end to end
@@ -18,8 +18,8 @@ pub length-code_bytes : (seed n : ℕ) → length (code_bytes seed n) ≡ 48 + 1
 unfolding code_bytes
 length-code_bytes seed n = omega (arith, length-bytes_of (map generated_word (code seed n)), length-map (code seed n) generated_word, length-code seed n)
 
-pub length-table_bytes : (n : ℕ) → length (table_bytes n) ≡ 8 * n
-unfolding table_bytes
+pub length-table_bytes : (n : ℕ) → length (generated_table_bytes n) ≡ 8 * n
+unfolding generated_table_bytes
 length-table_bytes n = length-numbers n function_at
 
 pub length-data_bytes : length data_bytes ≡ 2048

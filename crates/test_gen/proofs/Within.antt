@@ -28,7 +28,7 @@ use Rattle.tests.specs.Elf.FileRead.{file_read}
 use Rattle.tests.specs.Elf.Layout.{written, string_table, symbol_names, section_names, null_symbol}
 use Rattle.qed_model.specs.Weave.Blocks.{IsLeaderBlock, IsOtherBlock, AreBlocks}
 use Rattle.qed_model.specs.Weave.OutputFile.{has_table, last_input, data_in, file_end, range_bytes, range_segment, other_segments, original_half}
-use Rattle.tests.specs.Admission.Places.{in_order, image_of, half_of, code_place}
+use Rattle.tests.specs.Admission.Places.{by_address, image_of, half_of, code_place}
 use Rattle.qed_model.specs.Weave.OutputParts.{copied, copies}
 use Rattle.qed_model.specs.Weave.SoundOptions.{AreSoundOptions}
 use Rattle.qed_model.specs.Weave.Sequences.{Block}
@@ -44,7 +44,7 @@ use Rattle.weave_core.proofs.Lemmas.{length-table, visit_some}
 use Rattle.weave_core.proofs.TestKept as kept
 use Rattle.elf_write.specs.Plain.{segment}
 use Rattle.test_gen.specs.Code.{function_count}
-use Rattle.test_gen.specs.Generated.{code_bytes, table_bytes as function_table, data_bytes, function_symbol, symbols, file_with, generated}
+use Rattle.test_gen.specs.Generated.{code_bytes, generated_table_bytes as function_table, data_bytes, function_symbol, symbols, generated_file_of, generated}
 use Rattle.test_gen.proofs.Admitted.{sized, file_admitted, few_functions}
 use Rattle.test_gen.proofs.Apart.{are_loads, small_code, small_table, small_data}
 use Rattle.test_gen.proofs.OutputSize.{bytes_in, bytes_in-order, length-order, IsShortName, AreSmall, few_segments, few_bytes}
@@ -155,10 +155,10 @@ module _ (seed n x y z : ℕ) (some : 1 ≤ n) (few : n ≤ 1875) where
   abbrev halves_of : List Segment
   halves_of = copied 0 code_part ∷ range_segment (image_of f) table_range ∷ range_segment (image_of f) data_range ∷ []
 
-  half_is : original_half (image_of f) ≡ in_order halves_of
+  half_is : original_half (image_of f) ≡ by_address halves_of
   half_is =
-      ap (λ o. in_order (copies 0 o ++ map (range_segment (image_of f)) (data_ranges (image_of f)))) others_are
-      ∙ ap (λ d. in_order (copies 0 (code_part ∷ []) ++ map (range_segment (image_of f)) d)) ranges_are
+      ap (λ o. by_address (copies 0 o ++ map (range_segment (image_of f)) (data_ranges (image_of f)))) others_are
+      ∙ ap (λ d. by_address (copies 0 (code_part ∷ []) ++ map (range_segment (image_of f)) d)) ranges_are
 
   -- no segment ends behind the data
   abbrev Ends : Segment → Type 0
@@ -305,12 +305,12 @@ abbrev AreGood : ElfFile → Type 0
 AreGood f =
     (bs : List Block) (words : List ℕ) → AreBlocks f default_options bs → IsNewCode f default_options bs words → IsSmallCode f bs → IsGood f bs words
 
-with_functions : (seed n : ℕ) → 1 ≤ n → n ≤ 1875 → AreGood (file_read (file_with seed n))
-unfolding file_with
+with_functions : (seed n : ℕ) → 1 ≤ n → n ≤ 1875 → AreGood (file_read (generated_file_of seed n))
+unfolding generated_file_of
 with_functions seed n some few bs words are new short =
     let x = 24 * (1 + length (symbols n)) in
     let y = length (string_table (symbol_names (symbols n))) in
-    let z = length (string_table (section_names (file_with seed n).sections)) in
+    let z = length (string_table (section_names (generated_file_of seed n).sections)) in
     record {
       within = file_within seed n x y z some few bs words are new short;
       ends = file_output_ends seed n x y z some few bs words are new short;

@@ -25,26 +25,26 @@ abbrev pub function_at : ℕ → ℕ
 function_at i = 0x10000 + 48 + 132 * i
 
 -- the addresses of n functions, 8 bytes each
-unfoldable pub table_bytes : ℕ → List ℕ
-table_bytes n = gather n (λ i. number_bytes 8 (function_at i))
+unfoldable pub generated_table_bytes : ℕ → List ℕ
+generated_table_bytes n = gather n (λ i. number_bytes 8 (function_at i))
 
 -- 256 words of 8 bytes; word i is i
 unfoldable pub data_bytes : List ℕ
 data_bytes = gather 256 (λ i. number_bytes 8 i)
 
-abbrev pub code_segment : ℕ → ℕ → Segment
-code_segment seed n = segment (PF_R + PF_X) 0x10000 (code_bytes seed n)
+abbrev pub generated_code : ℕ → ℕ → Segment
+generated_code seed n = segment (PF_R + PF_X) 0x10000 (code_bytes seed n)
 
-abbrev pub table_segment : ℕ → Segment
-table_segment n = segment PF_R 0x80000 (table_bytes n)
+abbrev pub generated_table : ℕ → Segment
+generated_table n = segment PF_R 0x80000 (generated_table_bytes n)
 
-abbrev pub data_segment : Segment
-data_segment = segment (PF_R + PF_W) 0x90000 data_bytes
+abbrev pub generated_data : Segment
+generated_data = segment (PF_R + PF_W) 0x90000 data_bytes
 
 -- ---- sections
 -- the sections over the code, the table and the data
-abbrev pub sections : Segment → Segment → Segment → List OutSection
-sections code table words =
+abbrev pub generated_sections : Segment → Segment → Segment → List OutSection
+generated_sections code table words =
     section (codes ".text") (SHF_ALLOC + SHF_EXECINSTR) code
     ∷ section (codes ".rodata") SHF_ALLOC table
     ∷ section (codes ".data") (SHF_ALLOC + SHF_WRITE) words
@@ -52,27 +52,27 @@ sections code table words =
 
 -- ---- symbols
 -- the symbol of a function, without a size
-abbrev pub symbol : List ℕ → ℕ → Symbol
-symbol name address = record { name = name; value = address; size = 0; kind = STT_FUNC; binding = STB_GLOBAL; other = 0; index = SHN_ABS }
+abbrev pub named_function : List ℕ → ℕ → Symbol
+named_function name address = record { name = name; value = address; size = 0; kind = STT_FUNC; binding = STB_GLOBAL; other = 0; index = SHN_ABS }
 
 -- `f` and the number of the function
 unfoldable pub function_symbol : ℕ → Symbol
-function_symbol i = symbol (codes "f" ++ decimal i) (function_at i)
+function_symbol i = named_function (codes "f" ++ decimal i) (function_at i)
 
 abbrev pub symbols : ℕ → List Symbol
-symbols n = symbol (codes "main") 0x10000 ∷ each n function_symbol
+symbols n = named_function (codes "main") 0x10000 ∷ each n function_symbol
 
 -- ---- the file
 -- the file with n functions
-unfoldable pub file_with : ℕ → ℕ → OutFile
-file_with seed n = record {
+unfoldable pub generated_file_of : ℕ → ℕ → OutFile
+generated_file_of seed n = record {
   entry = 0x10000;
   flags = 0;
-  segments = code_segment seed n ∷ table_segment n ∷ data_segment ∷ [];
-  sections = sections (code_segment seed n) (table_segment n) data_segment;
+  segments = generated_code seed n ∷ generated_table n ∷ generated_data ∷ [];
+  sections = generated_sections (generated_code seed n) (generated_table n) generated_data;
   symbols = symbols n;
 }
 
 -- the test of a seed and a size
 unfoldable pub generated : ℕ → ℕ → OutFile
-generated seed size = file_with seed (function_count size)
+generated seed size = generated_file_of seed (function_count size)

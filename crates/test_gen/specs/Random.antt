@@ -13,13 +13,13 @@ unfoldable pub drawn : Lcg → ℕ
 drawn g = (pcg64 g).0
 
 -- the generator behind its next word
-unfoldable pub next : Lcg → Lcg
-next g = (pcg64 g).1
+unfoldable pub next_state : Lcg → Lcg
+next_state g = (pcg64 g).1
 
 -- the generator behind n words
 abbrev pub after : ℕ → Lcg → Lcg
 after zero g = g
-after (suc n) g = next (after n g)
+after (suc n) g = next_state (after n g)
 
 -- random word n of a seed, from 0
 unfoldable pub random_word : ℕ → ℕ → ℕ

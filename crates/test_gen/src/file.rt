@@ -10,7 +10,8 @@ ghost use Rattle.machine.specs.Program.{AreStartRegs, start};
 ghost use Rattle.tests.specs.Options.{default_options};
 ghost use Rattle.test_gen.specs.Ends.{EndsAfter, test_steps};
 ghost use Rattle.test_gen.specs.Outputs.{IsWeavable};
-ghost use Rattle.test_gen.specs.Generated.{sections as sections_of, symbol as symbol_of, function_symbol as function_symbol_of, symbols as symbols_of, file_with as file_with_of, generated};
+ghost use Rattle.test_gen.specs.Generated.{generated_sections as sections_of, named_function as symbol_of, function_symbol as function_symbol_of};
+ghost use Rattle.test_gen.specs.Generated.{symbols as symbols_of, generated_file_of as file_with_of, generated};
 
 use crate::code::{code, function_count, words_bytes};
 use crate::tables::{CODE, data_bytes, function_at, table_bytes};
@@ -83,7 +84,7 @@ fn symbols(alloc: Global, functions: u64) -> Result<Vec<Symbol>, AllocError>
 }
 
 /// The file of `functions` functions, before it is written.
-#[tactic(auto, unfolding(crate::specs::Generated::file_with, crate::specs::Generated::code_bytes))]
+#[tactic(auto, unfolding(crate::specs::Generated::generated_file_of, crate::specs::Generated::code_bytes))]
 fn file_with(alloc: Global, seed: u64, functions: u64) -> Result<OutFile, AllocError>
     requires { functions ≤ 1875 }
     ensures { IfOk result (λ file. file ≡ file_with_of seed functions) }
@@ -114,7 +115,8 @@ pub fn generate(alloc: Global, seed: u64, size: u64) -> Result<Bytes, AllocError
     ensures file { IfOk result (λ bytes. bytes ≡ written (generated seed size)) }
     ensures readable { IfOk result (λ bytes. IsReadAs bytes (file_read (generated seed size))) }
     ensures admitted { IfOk result (λ bytes. (f : ElfFile) → IsReadAs bytes f → IsAdmitted f default_options) }
-    ensures ends { IfOk result (λ bytes. (f : ElfFile) → IsReadAs bytes f → (regs : List ℕ) → AreStartRegs regs → EndsAfter (start (loaded_file f) regs) (test_steps size)) }
+    ensures ends { IfOk result (λ bytes. (f : ElfFile) → IsReadAs bytes f
+        → (regs : List ℕ) → AreStartRegs regs → EndsAfter (start (loaded_file f) regs) (test_steps size)) }
     ensures weavable { IfOk result IsWeavable }
 {
     let file = file_with(alloc, seed, function_count(size))?;

@@ -1,7 +1,7 @@
 //! The table of functions, and the data.
 ghost use Rattle.std.specs.Prelude.{◌≡◌, ◌<◌, ◌≤◌, ◌++◌, IfOk, OnOk};
 ghost use Rattle.machine.specs.Numbers.{number_bytes};
-ghost use Rattle.test_gen.specs.Generated.{function_at as function_at_of, table_bytes as table_bytes_of, data_bytes as data_bytes_of};
+ghost use Rattle.test_gen.specs.Generated.{function_at as function_at_of, generated_table_bytes as table_bytes_of, data_bytes as data_bytes_of};
 
 use std::alloc::{AllocError, Global};
 
@@ -35,7 +35,7 @@ fn push_number(bytes: &mut Vec<u8>, number: u64) -> Result<(), AllocError>
 }
 
 /// The addresses of `functions` functions, 8 bytes each.
-#[tactic(auto, using(machine::proofs::BelowLaws::gather_none, machine::proofs::BelowLaws::gather_more), unfolding(crate::specs::Generated::table_bytes))]
+#[tactic(auto, using(machine::proofs::BelowLaws::gather_none, machine::proofs::BelowLaws::gather_more), unfolding(crate::specs::Generated::generated_table_bytes))]
 pub fn table_bytes(alloc: Global, functions: u64) -> Result<Vec<u8>, AllocError>
     requires { functions ≤ 1875 }
     ensures { IfOk result (λ bytes. bytes.items ≡ table_bytes_of functions) }

@@ -5,12 +5,12 @@ use Rattle.std.proofs.lemmas.Bool.Decides.{nat_tests}
 use Rattle.elf_types.specs.declared.error.ElfError.{ElfError}
 use Rattle.elf_types.specs.declared.error.ElfError.TheVariants as error
 use Rattle.elf_types.specs.declared.records.SectionHeader.{SectionHeader}
-use Rattle.machine.specs.Below.{first}
+use Rattle.machine.specs.Below.{first_below}
 use Rattle.machine.specs.Numbers.{field}
 use Rattle.tests.specs.Files.Header.{e_type, e_machine, e_version, e_phnum, e_shnum}
 use Rattle.tests.specs.Files.Fields.{e_class, e_encoding, e_ident_version, program_header, section_header, rela_entry}
-use Rattle.tests.specs.Files.Rules.{Check, refuse, refuse_found, refuse_found_at, first_refusal, is_segment_outside, is_section_outside, segment_place_rule, section_place_rule, magic_rule, header_rule, class_rule, encoding_rule, version_rule, file_type_rule, machine_rule, has_header_shape, header_shape_rule, header_rules, program_table_rule, section_table_rule, is_misshapen, segment_shape_rule, do_overlap, overlapped, segment_overlap_rule, is_section_misshapen, section_shape_rule, has_entries, has_strings, is_misnamed, symbol_table, symbols_rule, rule_at, symbol_shape_rule, is_counted, symbol_count, section_bytes, rela_fault, rela_shape_rule, counted_bytes, section_count_rule, byte_count_rule, table_rules, part_rules, verdict, read_verdict}
-use Rattle.tests.specs.Files.Refusals.{HasHeaderShape, AreSymbols, AreRelas, IsAccepted, IsRefused}
+use Rattle.tests.specs.Files.Rules.{Check, refuse, refuse_found, refuse_found_at, first_refusal, is_segment_outside, is_section_outside, segment_place_rule, section_place_rule, magic_rule, header_rule, class_rule, encoding_rule, version_rule, file_type_rule, machine_rule, has_header_shape, header_shape_rule, header_rules, program_table_rule, section_table_rule, is_misshapen, segment_shape_rule, do_overlap, overlapped, segment_overlap_rule, is_section_misshapen, section_shape_rule, has_entries, has_strings, is_misnamed, symbol_table, symbols_rule, rule_at, symbol_shape_rule, is_counted_section, symbol_count, section_bytes, rela_fault, rela_shape_rule, counted_bytes, section_count_rule, byte_count_rule, table_rules, part_rules, verdict, read_verdict}
+use Rattle.tests.specs.Files.Refusals.{HasHeaderShape, AreSymbols, AreRelas, IsAccepted, IsFileRefused}
 use Rattle.tests.specs.Files.File.{File, WithinReadLimits, IsReadAs}
 use Rattle.elf_types.specs.declared.file.ElfFile.{ElfFile}
 use Rattle.std.proofs.lemmas.Bool.{le-ltb, ltb-false, leb-false, false≢true}
@@ -32,7 +32,7 @@ fails : (e : ElfError) (test : Bool) → refuse e test ≡ Ok tt → test ≡ fa
 fails e true h = absurd cc
 fails e false h = refl
 
-pairs_none : (e : ℕ → ℕ → ElfError) (place : ℕ → Option ℕ) (n : ℕ) (o : Option ℕ) → first n (λ i. is_some (place i)) ≡ o → refuse_found_at e place o ≡ Ok tt
+pairs_none : (e : ℕ → ℕ → ElfError) (place : ℕ → Option ℕ) (n : ℕ) (o : Option ℕ) → first_below n (λ i. is_some (place i)) ≡ o → refuse_found_at e place o ≡ Ok tt
     → (i : ℕ) → i < n → place i ≡ None
 pairs_none e place n None found h i lt = by_some (place i) (each_fails n (λ k. is_some (place k)) found i lt)
 pairs_none e place n (Some j) found h i lt = absurd (false≢true (sym (ap is_some (none_found (e j) (place j) h)) ∙ (first_least n (λ k. is_some (place k)) j found).passes))
@@ -62,7 +62,7 @@ version_is ident version false t h = absurd cc
 
 -- ---- symbols and relocations
 symbols_cases : (file : List ℕ) (s : SectionHeader) (b : Bool) → has_entries s && has_strings file s ≡ b
-    → cond b (refuse_found error.SymbolShape (first (s.size / 24) (is_misnamed file s))) (Err (error.SymbolShape 0)) ≡ Ok tt → AreSymbols file s
+    → cond b (refuse_found error.SymbolShape (first_below (s.size / 24) (is_misnamed file s))) (Err (error.SymbolShape 0)) ≡ Ok tt → AreSymbols file s
 symbols_cases file s true shape h = record { shape = shape; names = each_fails (s.size / 24) (is_misnamed file s) (none_found error.SymbolShape _ h) }
 symbols_cases file s false shape h = absurd cc
 
@@ -77,12 +77,12 @@ symbols_at file None h i found = absurd cc
 symbols_at file (Some j) h i found = let same : j ≡ i = cc in subst (λ (k : ℕ). AreSymbols file (section_header file k)) same (are_symbols file (section_header file j) h)
 
 relas_cases : (file : List ℕ) (s : SectionHeader) (b : Bool) → has_entries s ≡ b
-    → cond b (first (s.size / 24) (λ k. leb (symbol_count file) (rela_entry (section_bytes file s) k).symbol)) (Some 0) ≡ None → AreRelas file s
+    → cond b (first_below (s.size / 24) (λ k. leb (symbol_count file) (rela_entry (section_bytes file s) k).symbol)) (Some 0) ≡ None → AreRelas file s
 relas_cases file s true shape h =
     record { shape = shape; symbols = λ k lt. leb-false _ _ (each_fails (s.size / 24) (λ q. leb (symbol_count file) (rela_entry (section_bytes file s) q).symbol) h k lt) }
 relas_cases file s false shape h = absurd cc
 
-are_relas : (file : List ℕ) (s : SectionHeader) → rela_fault file s ≡ None → is_counted file s ≡ true → AreRelas file s
+are_relas : (file : List ℕ) (s : SectionHeader) → rela_fault file s ≡ None → is_counted_section file s ≡ true → AreRelas file s
 unfolding rela_fault
 are_relas file s none counted = relas_cases file s _ refl (rw counted at none)
 
@@ -141,5 +141,5 @@ no_refusal file h w =
     rw (h, sections, bytes) refl
 
 -- bytes that are read are not refused
-pub read_or_refused : (bytes : List ℕ) (f : ElfFile) (e : ElfError) → IsReadAs bytes f → IsRefused bytes e → ⊥
+pub read_or_refused : (bytes : List ℕ) (f : ElfFile) (e : ElfError) → IsReadAs bytes f → IsFileRefused bytes e → ⊥
 read_or_refused bytes f e r x = let p = no_refusal bytes r.file.accepted r.within in let q = x.first in absurd (cc)

@@ -10,7 +10,7 @@ use Rattle.tests.proofs.DataRangesLaws.{in_parts}
 use Rattle.tests.proofs.OneRefusal.{Rising}
 
 -- ---- numbers that pass a test
--- those of the n numbers from k on
+-- those of the n numbers from k on that pass
 passing_from : (ℕ → Bool) → ℕ → ℕ → List ℕ
 passing_from test k zero = []
 passing_from test k (suc n) = cond (test k) (k ∷ passing_from test (k + 1) n) (passing_from test (k + 1) n)
@@ -43,7 +43,7 @@ pairs_of low (x ∷ xs) r = by (pairs_of (x + 1) xs r.1) where
   by rest zero (suc j) d lt le = let h = rising_at (x + 1) xs j d r.1 (omega (arith, le)) in omega (arith, h)
   by rest (suc i) (suc j) d lt le = rest i j d (omega (arith, lt)) (omega (arith, le))
 
--- and are those that pass
+-- all listed numbers pass the test
 passes_from : (test : ℕ → Bool) (k n a : ℕ) → Among a (passing_from test k n) → test a ≡ true
 unfolding passing_from
 passes_from test k zero a m = absurd m

@@ -4,7 +4,7 @@ use Rattle.std.specs.Prelude.{slice_get, is_some}
 use Rattle.std.proofs.lemmas.Bool.{false≢true, cases_lt, false_from_ne_true, true_from_ne_false}
 use Rattle.tests.specs.declared.admit.AdmitError.{AdmitError}
 use Rattle.tests.specs.declared.admit.AdmitError.TheVariants as error
-use Rattle.machine.specs.Below.{first, IsFirstBelow}
+use Rattle.machine.specs.Below.{first_below, IsFirstBelow}
 use Rattle.tests.specs.Admission.Terms.{is_compressed, is_dynamic}
 use Rattle.tests.specs.Admission.Places.{base_of, high_of, distance_of, Options, Segment, ElfFile, image_of, half_of, code_place}
 use Rattle.tests.specs.Admission.CodeWords.{loads_of, is_code, word_at}
@@ -34,11 +34,11 @@ no_fault f o a error.Memory h = h
 pub not_refused : (f : ElfFile) (o : Options) (e : AdmitError) → IsAdmitted f o → IsRefusedBy f o e → ⊥
 not_refused f o e a r = no_fault f o a e r.fault
 
--- ---- a test of which no rule holds is admitted
--- where no number is the first that passes, none passes
+-- ---- a test without a rule that holds is admitted
+-- if no number is the first that passes, none passes
 none_first : (n : ℕ) (test : ℕ → Bool) → ((i : ℕ) → IsFirstBelow n test i → ⊥) → (j : ℕ) → j < n → test j ≡ false
-none_first n test h j lt = by (first n test) refl where
-  by : (found : Option ℕ) → first n test ≡ found → test j ≡ false
+none_first n test h j lt = by (first_below n test) refl where
+  by : (found : Option ℕ) → first_below n test ≡ found → test j ≡ false
   by None e = each_fails n test e j lt
   by (Some i) e = absurd (h i (first_least n test i e))
 

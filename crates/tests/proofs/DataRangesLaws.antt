@@ -1,11 +1,11 @@
--- The data ranges: what joins ranges gives the ranges that the sentences on them describe, and there is one list of such ranges.
+-- The data ranges: joining gives the ranges that the sentences on them describe, and there is one such list.
 use Rattle.std.proofs.Common.{◌≡◌, ◌⊎◌, inl, inr, ⊎_elim, ℕ, suc, ◌+◌, ◌%◌, ◌<◌, ◌≤◌, min, max, Bool, true, false, cond, ◌&&◌, ◌||◌, List, [], ◌∷◌, get_or, refl, sym, ap, ◌∙◌, subst, arith}
 use Rattle.std.specs.Prelude.{nat_lt, nat_le, All, AllPairs, map, filter}
 use Rattle.std.proofs.Math.Bool.{or_assoc}
 use Rattle.std.proofs.lemmas.Bool.Decides.{nat_tests}
 use Rattle.std.proofs.lemmas.Bool.{leb-true, ltb-true, ltb-false, and_parts, and_from, le-leb, lt-ltb, false≢true}
 use Rattle.std.proofs.lemmas.List.{get_or_default}
-use Rattle.tests.specs.Admission.DataRanges.{Segment, rounded, data_segments, data_parts, is_in, is_in_any, AreJoined, join, joined, data_ranges}
+use Rattle.tests.specs.Admission.DataRanges.{Segment, rounded, data_segments, data_parts, is_in, is_in_any, AreJoined, join, joined_ranges, data_ranges}
 use Rattle.machine.proofs.Lemmas.{passing, any_passing, none_passing, among_every, every_all, pairs_all}
 use Rattle.machine.specs.Members.{Among, Pairs}
 
@@ -52,7 +52,7 @@ aligned-join r (t ∷ ts) a b h =
       ]
     ]
 
--- and the addresses
+-- joining keeps the addresses
 or_swap : (a b c : Bool) → (b || (a || c)) ≡ (a || (b || c))
 or_swap true true c = refl
 or_swap true false c = refl
@@ -75,17 +75,17 @@ in_any-join q low r (t ∷ ts) s h =
       ] refl
     ] refl
 
-pub spaced-joined : (rs : List (ℕ × ℕ)) → AllSome rs → Spaced 0 (joined rs)
+pub spaced-joined : (rs : List (ℕ × ℕ)) → AllSome rs → Spaced 0 (joined_ranges rs)
 spaced-joined [] h = tt
-spaced-joined (r ∷ rs) h = spaced-join 0 r (joined rs) (omega arith) h.0 (spaced-joined rs h.1)
+spaced-joined (r ∷ rs) h = spaced-join 0 r (joined_ranges rs) (omega arith) h.0 (spaced-joined rs h.1)
 
-pub aligned-joined : (rs : List (ℕ × ℕ)) → AllAligned rs → AllAligned (joined rs)
+pub aligned-joined : (rs : List (ℕ × ℕ)) → AllAligned rs → AllAligned (joined_ranges rs)
 aligned-joined [] h = tt
-aligned-joined (r ∷ rs) h = aligned-join r (joined rs) h.0 h.1 (aligned-joined rs h.2)
+aligned-joined (r ∷ rs) h = aligned-join r (joined_ranges rs) h.0 h.1 (aligned-joined rs h.2)
 
-pub in_any-joined : (q : ℕ) (rs : List (ℕ × ℕ)) → AllSome rs → is_in_any (joined rs) q ≡ is_in_any rs q
+pub in_any-joined : (q : ℕ) (rs : List (ℕ × ℕ)) → AllSome rs → is_in_any (joined_ranges rs) q ≡ is_in_any rs q
 in_any-joined q [] h = refl
-in_any-joined q (r ∷ rs) h = in_any-join q 0 r (joined rs) h.0 (spaced-joined rs h.1) ∙ ap (λ b. is_in r q || b) (in_any-joined q rs h.1)
+in_any-joined q (r ∷ rs) h = in_any-join q 0 r (joined_ranges rs) h.0 (spaced-joined rs h.1) ∙ ap (λ b. is_in r q || b) (in_any-joined q rs h.1)
 
 -- ---- addresses of ranges
 pub in_from : (r : ℕ × ℕ) (q : ℕ) → r.0 ≤ q → q < r.1 → is_in r q ≡ true
@@ -140,10 +140,10 @@ gaps-spaced : (low : ℕ) (rs : List (ℕ × ℕ)) → Spaced low rs → AllPair
 gaps-spaced low rs s = pairs_all (λ r t. r.1 < t.0) rs (gap_pairs low rs s)
 
 -- so joined ranges are what the sentences say
-pub are_joined : (parts : List (ℕ × ℕ)) → AllSome parts → AreJoined parts (joined parts)
+pub are_joined : (parts : List (ℕ × ℕ)) → AllSome parts → AreJoined parts (joined_ranges parts)
 are_joined parts h =
     let s = spaced-joined parts h in
-    record { some = some-spaced 0 (joined parts) s; gaps = gaps-spaced 0 (joined parts) s; same = λ q. in_any-joined q parts h }
+    record { some = some-spaced 0 (joined_ranges parts) s; gaps = gaps-spaced 0 (joined_ranges parts) s; same = λ q. in_any-joined q parts h }
 
 -- ---- there is one such list
 -- the sentences give the form
@@ -172,7 +172,7 @@ first_from low r rs ts some s same =
       by : (b : Bool) → nat_le low r.0 ≡ b → (m : ℕ × ℕ) → (low ≤ m.0) × (m.0 < m.1) → (m.0 ≤ r.0) × (r.0 < m.1) → low ≤ r.0
       by b e m f i = omega (arith, f.0, i.0)
 
--- and ends no later
+-- the first of two lists with the same addresses ends no later
 first_to : (a b c : ℕ) (rs ts : List (ℕ × ℕ)) → a < c → Spaced (b + 1) rs → ((q : ℕ) → is_in_any ((a, b) ∷ rs) q ≡ is_in_any ((a, c) ∷ ts) q) → a < b → c ≤ b
 first_to a b c rs ts some s same ab =
     by (nat_lt b c) refl where
@@ -294,8 +294,8 @@ inside-join r (t ∷ ts) =
       ]
     ]
 
-pub inside-joined : (rs : List (ℕ × ℕ)) (p : ℕ × ℕ) → Among p rs → Inside (joined rs) p
+pub inside-joined : (rs : List (ℕ × ℕ)) (p : ℕ × ℕ) → Among p rs → Inside (joined_ranges rs) p
 inside-joined [] p m = absurd m
 inside-joined (r ∷ rs) p m =
-    let step = inside-join r (joined rs) in
-    ⊎_elim (λ e. subst (Inside (join r (joined rs))) (sym e) step.0) (λ k. step.1 p (inside-joined rs p k)) m
+    let step = inside-join r (joined_ranges rs) in
+    ⊎_elim (λ e. subst (Inside (join r (joined_ranges rs))) (sym e) step.0) (λ k. step.1 p (inside-joined rs p k)) m

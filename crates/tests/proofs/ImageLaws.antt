@@ -7,7 +7,7 @@ use Rattle.machine.specs.Program.{LoadSegment}
 use Rattle.machine.specs.Loading.{load_segment, load_segments}
 use Rattle.tests.specs.Admission.Terms.{Segment, is_in_image, image_segments}
 use Rattle.tests.specs.Admission.DataRanges.{AreJoined, data_parts, data_ranges, DataRangesAreJoined}
-use Rattle.tests.specs.Admission.Places.{low_of, high_of, base_of, insert_segment, in_order}
+use Rattle.tests.specs.Admission.Places.{low_of, high_of, base_of, insert_segment, by_address}
 use Rattle.machine.specs.Cells.{has}
 use Rattle.machine.proofs.Lemmas.{AllSized, among-filter, among-kept, has_parts}
 use Rattle.machine.specs.Members.{Among}
@@ -128,13 +128,13 @@ pub insert_among : (s : Segment) (ts : List Segment) (x : Segment) → Among x (
 insert_among s [] x m = m
 insert_among s (t ∷ ts) x m = insert_among_step s t x ts (insert_among s ts x) (nat_le s.address t.address) m
 
-pub among-ordered : (ss : List Segment) (x : Segment) → Among x ss → Among x (in_order ss)
+pub among-ordered : (ss : List Segment) (x : Segment) → Among x ss → Among x (by_address ss)
 among-ordered [] x m = m
-among-ordered (s ∷ ss) x m = among-insert s (in_order ss) x (⊎_elim (λ e. inl e) (λ r. inr (among-ordered ss x r)) m)
+among-ordered (s ∷ ss) x m = among-insert s (by_address ss) x (⊎_elim (λ e. inl e) (λ r. inr (among-ordered ss x r)) m)
 
-pub ordered_among : (ss : List Segment) (x : Segment) → Among x (in_order ss) → Among x ss
+pub ordered_among : (ss : List Segment) (x : Segment) → Among x (by_address ss) → Among x ss
 ordered_among [] x m = m
-ordered_among (s ∷ ss) x m = ⊎_elim (λ e. inl e) (λ r. inr (ordered_among ss x r)) (insert_among s (in_order ss) x m)
+ordered_among (s ∷ ss) x m = ⊎_elim (λ e. inl e) (λ r. inr (ordered_among ss x r)) (insert_among s (by_address ss) x m)
 
 -- ---- permissions
 -- the permissions without PF_X

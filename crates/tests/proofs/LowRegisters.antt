@@ -1,11 +1,11 @@
--- Where the rule on high registers does not hold of an instruction of the table, its fields have no number above 13, but for a FENCE.
+-- If the rule on high registers does not hold of an instruction of the table, its fields are at most 13, but for FENCE.
 use Rattle.std.proofs.Common.{◌≡◌, ℕ, zero, suc, ◌≤◌, Bool, true, false, not, ◌&&◌, cond, Option, Some, None, refl, sym, ap, ◌∙◌, arith}
 use Rattle.std.specs.Prelude.{nat_lt}
 use Rattle.std.specs.Option.{option_or}
 use Rattle.std.proofs.lemmas.Bool.{ltb-false, false≢true}
 use Rattle.rv_isa.specs.declared.profile.TheConstants.{ORIGINALS, LAST_ORIGINAL}
 use Rattle.rv_isa.specs.Kind.{class_of, writes_rd, reads_rs1, reads_rs2}
-use Rattle.rv_isa.specs.Ins.{named, writes, reads}
+use Rattle.rv_isa.specs.Ins.{named_register, writes, reads}
 use Rattle.machine.specs.Table.{Kind, Ins, Format, R, S, B, U, J, N, row_of, ins_of, decode_of}
 use Rattle.tests.specs.Admission.Terms.{if_high, high_register}
 use Rattle.machine.specs.Operands.{has_rd, has_rs1, has_rs2, is_fence}
@@ -30,7 +30,7 @@ pub decoded_is : (w : ℕ) (i : Ins) → decode_of w ≡ Some i → i ≡ ins_of
 decoded_is w i e = let f = decode-fits i.kind w (fits-decode w i e) in let d : Some i ≡ Some (ins_of (row_of i.kind).format i.kind w) = sym e ∙ f in cc
 
 -- ---- registers that are named
-low_named : (r : ℕ) → if_high (named true r) ≡ None → r ≤ LAST_ORIGINAL
+low_named : (r : ℕ) → if_high (named_register true r) ≡ None → r ≤ LAST_ORIGINAL
 low_named zero e = omega arith
 low_named (suc r) e = by (nat_lt LAST_ORIGINAL (suc r)) refl e where
   by : (b : Bool) → nat_lt LAST_ORIGINAL (suc r) ≡ b → cond b (Some (suc r)) None ≡ None → suc r ≤ LAST_ORIGINAL
@@ -46,9 +46,9 @@ none_right None b e = e
 none_right (Some x) b e = absurd (cc)
 
 -- a field that is named, or that the format does not have
-low_field : (has fence names : Bool) (r : ℕ) → names ≡ (has && not fence) → fence ≡ false → (has ≡ false → r ≡ 0) → if_high (named names r) ≡ None → r ≤ LAST_ORIGINAL
+low_field : (has fence names : Bool) (r : ℕ) → names ≡ (has && not fence) → fence ≡ false → (has ≡ false → r ≡ 0) → if_high (named_register names r) ≡ None → r ≤ LAST_ORIGINAL
 low_field true true names r e f z h = absurd (false≢true (sym f))
-low_field true false names r e f z h = low_named r (sym (ap (λ b. if_high (named b r)) e) ∙ h)
+low_field true false names r e f z h = low_named r (sym (ap (λ b. if_high (named_register b r)) e) ∙ h)
 low_field false fence names r e f z h = let k = z refl in omega (arith, k)
 
 pub low_fields : (w : ℕ) (i : Ins) → decode_of w ≡ Some i → high_register i ≡ None → is_fence i.kind ≡ false → (i.rd ≤ LAST_ORIGINAL) × (i.rs1 ≤ LAST_ORIGINAL) × (i.rs2 ≤ LAST_ORIGINAL)

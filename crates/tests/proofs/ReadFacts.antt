@@ -1,5 +1,5 @@
--- What is true of a file that was read: no segment has more bytes in the file than in memory, names have no zero byte, and the types and
--- bindings of symbols have four bits.
+-- What holds of a file that was read: no segment has more bytes in the file than in memory, names have no zero byte,
+-- and the types and bindings of symbols have four bits.
 use Rattle.std.proofs.Common.{◌≡◌, ◌≢◌, ℕ, ◌+◌, ◌-◌, ◌*◌, ◌/◌, ◌<◌, ◌≤◌, Bool, true, false, cond, ◌&&◌, ◌||◌, ◌==◌, List, [], length, take, drop, get_or, Option, Some, None, refl, sym, ◌∙◌, subst, arith, ⊎_elim, length-take, get_or-take, get_or-drop}
 use Rattle.std.specs.Prelude.{All, slice_index, nat_lt}
 use Rattle.std.specs.Option.{unwrap_or}

@@ -8,11 +8,11 @@ use Rattle.elf_types.specs.declared.error.ElfError.{ElfError}
 use Rattle.elf_types.specs.declared.error.ElfError.TheVariants as error
 use Rattle.elf_types.specs.declared.error.Part.TheVariants as part
 use Rattle.elf_types.specs.declared.records.SectionHeader.{SectionHeader}
-use Rattle.machine.specs.Below.{first, IsFirstBelow}
+use Rattle.machine.specs.Below.{first_below, IsFirstBelow}
 use Rattle.tests.specs.Files.Header.{e_type, e_machine, e_version, e_phnum, e_shnum}
 use Rattle.tests.specs.Files.Fields.{HasTables, e_class, e_encoding, e_ident_version, program_header, section_header, rela_entry}
-use Rattle.tests.specs.Files.Rules.{Check, refuse, refuse_found, refuse_found_at, first_refusal, HasParts, is_segment_outside, is_section_outside, segment_place_rule, section_place_rule, magic_rule, header_rule, class_rule, encoding_rule, version_rule, file_type_rule, machine_rule, header_shape_rule, header_rules, program_table_rule, section_table_rule, is_misshapen, segment_shape_rule, do_overlap, overlapped, segment_overlap_rule, is_section_misshapen, section_shape_rule, has_entries, has_strings, is_misnamed, symbol_table, symbols_rule, rule_at, symbol_shape_rule, is_counted, symbol_count, section_bytes, rela_fault, rela_shape_rule, counted_bytes, section_count_rule, byte_count_rule, table_rules, part_rules, verdict, read_verdict}
-use Rattle.tests.specs.Files.Refusals.{HasFault, IsRefused}
+use Rattle.tests.specs.Files.Rules.{Check, refuse, refuse_found, refuse_found_at, first_refusal, HasParts, is_segment_outside, is_section_outside, segment_place_rule, section_place_rule, magic_rule, header_rule, class_rule, encoding_rule, version_rule, file_type_rule, machine_rule, header_shape_rule, header_rules, program_table_rule, section_table_rule, is_misshapen, segment_shape_rule, do_overlap, overlapped, segment_overlap_rule, is_section_misshapen, section_shape_rule, has_entries, has_strings, is_misnamed, symbol_table, symbols_rule, rule_at, symbol_shape_rule, is_counted_section, symbol_count, section_bytes, rela_fault, rela_shape_rule, counted_bytes, section_count_rule, byte_count_rule, table_rules, part_rules, verdict, read_verdict}
+use Rattle.tests.specs.Files.Refusals.{HasFault, IsFileRefused}
 use Rattle.machine.proofs.Lemmas.{each_fails, first_least}
 use Rattle.tests.proofs.AdmissionLaws.{by_some}
 
@@ -75,7 +75,7 @@ version_cases file true ident =
 version_cases file false ident = error_says file (error.Version (e_ident_version file)) (inl (eqb-false (e_ident_version file) 1 ident, refl))
 
 symbols_cases : (file : List ℕ) (i : ℕ) (b : Bool) → symbol_table file ≡ Some i → has_entries (section_header file i) && has_strings file (section_header file i) ≡ b
-    → Says file (cond b (refuse_found error.SymbolShape (first ((section_header file i).size / 24) (is_misnamed file (section_header file i)))) (Err (error.SymbolShape 0)))
+    → Says file (cond b (refuse_found error.SymbolShape (first_below ((section_header file i).size / 24) (is_misnamed file (section_header file i)))) (Err (error.SymbolShape 0)))
 symbols_cases file i true found shape =
     found_says file error.SymbolShape _ (λ j h. record { table = i; found = found; fault = inr (shape, first_least ((section_header file i).size / 24) (is_misnamed file (section_header file i)) j h) })
 symbols_cases file i false found shape = error_says file (error.SymbolShape 0) (record { table = i; found = found; fault = inl (refl, shape) })
@@ -91,18 +91,18 @@ rule_at_says file rule (Some i) says = says i refl
 -- what a fault of a counted section is
 abbrev RelaFault : List ℕ → SectionHeader → ℕ → Type 0
 RelaFault file s k =
-    (is_counted file s ≡ true)
+    (is_counted_section file s ≡ true)
     × (((k ≡ 0) × (has_entries s ≡ false))
     ⊎ ((has_entries s ≡ true) × IsFirstBelow (s.size / 24) (λ h. leb (symbol_count file) (rela_entry (section_bytes file s) h).symbol) k))
 
 rela_entries : (file : List ℕ) (s : SectionHeader) (k : ℕ) (b : Bool) → has_entries s ≡ b
-    → cond b (first (s.size / 24) (λ h. leb (symbol_count file) (rela_entry (section_bytes file s) h).symbol)) (Some 0) ≡ Some k
+    → cond b (first_below (s.size / 24) (λ h. leb (symbol_count file) (rela_entry (section_bytes file s) h).symbol)) (Some 0) ≡ Some k
     → ((k ≡ 0) × (has_entries s ≡ false)) ⊎ ((has_entries s ≡ true) × IsFirstBelow (s.size / 24) (λ h. leb (symbol_count file) (rela_entry (section_bytes file s) h).symbol) k)
 rela_entries file s k true shape h = inr (shape, first_least (s.size / 24) (λ h. leb (symbol_count file) (rela_entry (section_bytes file s) h).symbol) k h)
 rela_entries file s k false shape h = inl (sym (same_Some 0 k h), shape)
 
-rela_cases : (file : List ℕ) (s : SectionHeader) (k : ℕ) (b : Bool) → is_counted file s ≡ b
-    → cond b (cond (has_entries s) (first (s.size / 24) (λ h. leb (symbol_count file) (rela_entry (section_bytes file s) h).symbol)) (Some 0)) None ≡ Some k → RelaFault file s k
+rela_cases : (file : List ℕ) (s : SectionHeader) (k : ℕ) (b : Bool) → is_counted_section file s ≡ b
+    → cond b (cond (has_entries s) (first_below (s.size / 24) (λ h. leb (symbol_count file) (rela_entry (section_bytes file s) h).symbol)) (Some 0)) None ≡ Some k → RelaFault file s k
 rela_cases file s k true counted h = (counted, rela_entries file s k _ refl h)
 rela_cases file s k false counted h = absurd cc
 
@@ -173,5 +173,5 @@ read_verdict_says file =
     first_says file (verdict file ∷ section_count_rule file ∷ byte_count_rule file ∷ []) (verdict_says file, (sections, (bytes, tt)))
 
 -- a file that is refused has the fault that the error names
-pub refused : (file : List ℕ) (e : ElfError) → read_verdict file ≡ Err e → IsRefused file e
+pub refused : (file : List ℕ) (e : ElfError) → read_verdict file ≡ Err e → IsFileRefused file e
 refused file e h = record { first = h; fault = (read_verdict_says file).says e h }

@@ -1,4 +1,4 @@
--- Ranges that ascend with gaps between them, as the fields of other things, and the one of them in which an address is sought.
+-- Ranges that ascend with gaps, as the fields of other things, and the one of them in which an address is sought.
 use Rattle.std.proofs.Common.{◌≡◌, ◌⊎◌, inl, inr, ⊎_elim, ℕ, ◌+◌, ◌<◌, ◌≤◌, Bool, true, false, List, [], ◌∷◌, length, map, get_or, refl, ap, ◌∙◌, arith}
 use Rattle.std.specs.Prelude.{nat_lt, nat_le}
 use Rattle.std.specs.List.{list_any}

@@ -7,7 +7,7 @@ use Rattle.machine.specs.declared.limits.TheConstants.{CODE_ROOM}
 use Rattle.tests.specs.declared.admit.AdmitError.{AdmitError}
 use Rattle.tests.specs.declared.admit.AdmitError.TheVariants as error
 use Rattle.machine.specs.Limits.{limit_of}
-use Rattle.machine.specs.Below.{first, IsFirstBelow}
+use Rattle.machine.specs.Below.{first_below, IsFirstBelow}
 use Rattle.tests.specs.Admission.Places.{base_of, high_of, distance_of, Options, ElfFile, image_of, half_of, code_place}
 use Rattle.tests.specs.Admission.Terms.{is_compressed, is_dynamic}
 use Rattle.tests.specs.Admission.CodeWords.{loads_of, is_code, word_at, AreCodeAddresses}
@@ -21,8 +21,8 @@ use Rattle.tests.proofs.AdmissionLaws.{admitted_of}
 -- ---- what is decided
 -- the first number that passes, or none passes
 found : (n : ℕ) (test : ℕ → Bool) → ((i : ℕ) × IsFirstBelow n test i) ⊎ ((j : ℕ) → j < n → test j ≡ false)
-found n test = by (first n test) refl where
-  by : (o : Option ℕ) → first n test ≡ o → ((i : ℕ) × IsFirstBelow n test i) ⊎ ((j : ℕ) → j < n → test j ≡ false)
+found n test = by (first_below n test) refl where
+  by : (o : Option ℕ) → first_below n test ≡ o → ((i : ℕ) × IsFirstBelow n test i) ⊎ ((j : ℕ) → j < n → test j ≡ false)
   by None e = inr (λ j lt. each_fails n test e j lt)
   by (Some i) e = inl (i, first_least n test i e)
 

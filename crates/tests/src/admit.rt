@@ -24,7 +24,7 @@ pub enum AdmitError {
     /// This section is the first whose code is misshapen; where there is none, this segment.
     #[error("part {0}")]
     CodeShape(u64),
-    /// At this address stands the first code word that is no instruction: the word.
+    /// At this address stands the first code word that is not an instruction: the word.
     #[error("address {0:#x}, word {1:#x}")]
     UnknownWord(u64, u32),
     /// The instruction at this address is the first that reads or writes a register above x13: the register.
@@ -36,22 +36,22 @@ pub enum AdmitError {
     /// The AUIPC at this address is the first whose result is out of reach.
     #[error("address {0:#x}")]
     FarConstant(u64),
-    /// This segment is the first that has a byte in a data range and is no data segment.
+    /// This segment is the first that is not a data segment and has a byte in a data range.
     #[error("segment {0}")]
     DataMixed(u64),
     /// The image ends at the first address, past the second, where the half ends that is asked for.
     #[error("image end {0:#x}, half end {1:#x}")]
     OutsideHalf(u128, u128),
-    /// The image spans so many bytes, above L2.
+    /// The bytes of the image, above L2.
     #[error("an image of {0} bytes")]
     ImageSpan(u128),
-    /// There are so many code words, above L3.
+    /// The number of code words, above L3.
     #[error("{0} code words")]
     CodeWords(u64),
     /// The room for the new code would end at this address, above L7.
     #[error("new code up to {0}")]
     TopAddress(u128),
-    /// There is no memory.
+    /// Out of memory.
     #[error("out of memory")]
     Memory,
 }

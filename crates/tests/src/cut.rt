@@ -22,7 +22,7 @@ fn is_cut_by(section: &Section, segment: &Segment) -> bool
     segment.is_executable() && shares(section, segment) && !lies_in(section, segment)
 }
 
-/// Whether a section that has bytes shares one with an executable segment of type PT_LOAD, and does not lie wholly inside it.
+/// Whether a section with bytes shares one with an executable PT_LOAD segment, and does not lie wholly inside it.
 pub fn is_cut_by_any(section: &Section, segments: &[Segment]) -> bool
     ensures { result ≡ list_any (is_cut_by section.now) (load_segments segments.now) }
 {

@@ -16,14 +16,14 @@ pub const LEAN_ROUND: u64 = 4;
 pub enum Entries {
     /// All of them.
     All,
-    /// Those to which a jump by register may lead, as far as the file shows.
+    /// Those to which, by the file, a jump by register may lead.
     Reached,
 }
 
-/// The options of a transformation. They are sound where `1 <= inst_min`, `inst_max <= 1024`,
-/// `2 * inst_min <= inst_max + 1`, `1 <= round <= 1024`, and `half` is None or a multiple of 4096 from 4096 to
-/// 536,870,912; and where `lean` is Some, it is at most 2047 and above the most steps of a piece and 30 more, or 33 more where
-/// `land` is set, and `entries` is Reached. Where `lean` is None, `land` has no effect.
+/// The options of a transformation. They are sound if `1 <= inst_min`, `inst_max <= 1024`, `2 * inst_min <= inst_max +
+/// 1`, `1 <= round <= 1024`, and `half` and `lean` are sound. A sound `half` is None or a multiple of 4096 from 4096 to
+/// 536,870,912. A sound `lean` is None, or with `entries` Reached it is Some of at most 2047, above the most steps of a
+/// piece and 30 more, or 33 more with `land`. Without `lean`, `land` has no effect.
 #[derive(Clone, Copy, Debug, PartialEq, Eq)]
 pub struct Options {
     /// The floor that `inst_max` leaves room for: a piece is shorter only where its run is.
@@ -47,9 +47,9 @@ pub struct Options {
     pub land: bool,
 }
 
-/// From 4 to 16 instructions in a piece and one data word behind it, with the least distance of the halves, no sweep,
-/// mirror parts of the same kinds, entries of all code addresses where the code has a JALR, and a comparison behind each
-/// piece.
+/// From 4 to 16 instructions in a piece and one data word behind it, the least distance of the halves, no sweep, mirror
+/// parts of the instructions' own kinds, and a comparison behind each piece. If the code has a JALR, all code addresses
+/// have entries.
 impl Default for Options {
     ghost is_default = { λ o. o ≡ default_options };
 

@@ -17,7 +17,7 @@ pub struct CodeWord {
 /// Words of the code in ascending order of their addresses.
 pub type CodeWords = Listed<CodeWord>;
 
-/// What is told of a test that was admitted. Addresses and sizes are in bytes.
+/// The facts of a test that was admitted. Addresses and sizes are in bytes.
 #[derive(Debug, Drop)]
 pub struct Test {
     /// The address of the first instruction.

@@ -5,7 +5,7 @@ use Rattle.bstr.specs.Utf8.{decoded}
 use Rattle.bstr.proofs.lemmas.PieceLemmas.{size-bounds}
 use Rattle.texts.specs.Names.{character_text, printable}
 
--- a first character is no longer than the name
+-- the name has at least the bytes of its first character
 pub size_fits : (bs : List ℕ) → 0 < length bs → (decoded bs).size ≤ length bs
 size_fits bs some = (size-bounds (length bs) (slice_index bs 0) (slice_index bs 1) (slice_index bs 2) (slice_index bs 3) some).2
 

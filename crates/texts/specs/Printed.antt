@@ -2,7 +2,7 @@
 use Rattle.std.specs.Prelude.{ℕ, ◌-◌, ◌^◌, List, [], ◌++◌, codes, false}
 use Rattle.std.specs.Fmt.{digits, padded_integral, format_spec}
 
--- at least so many lower-case hexadecimal digits, with zeros in front
+-- at least `count` lower-case hexadecimal digits, with zeros in front
 abbrev pub hex_digits : ℕ → ℕ → List ℕ
 hex_digits count x = padded_integral (format_spec 32 0 4 count (2 ^ 64 - 1)) false [] (digits 16 false x)
 

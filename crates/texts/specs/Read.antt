@@ -1,5 +1,6 @@
 -- Numbers, registers and parts of texts that are read. A text is its bytes.
-use Rattle.std.specs.Prelude.{ℕ, ◌+◌, ◌*◌, ◌^◌, ◌==◌, nat_lt, nat_le, ◌&&◌, if◌then◌else◌, Option, Some, None, option_map, option_and_then, List, [], ◌∷◌, length, take, drop}
+use Rattle.std.specs.Prelude.{ℕ, ◌+◌, ◌*◌, ◌^◌, ◌==◌, nat_lt, nat_le, ◌&&◌, if◌then◌else◌, Option, Some, None, option_map, option_and_then, List, [], ◌∷◌}
+use Rattle.std.specs.Prelude.{length, take, drop}
 use Rattle.std.specs.List.{position_from}
 use Rattle.std.specs.Char.{digit_value}
 
@@ -23,7 +24,7 @@ equals = 61
 abbrev pub letter_x : ℕ
 letter_x = 120
 
--- the number n with the digits of a text behind it; None where one is no digit, or from 2^64 on
+-- the number n with the digits of a text behind it; None if one is not a digit, or from 2^64 on
 abbrev pub read_on : ℕ → ℕ → List ℕ → Option ℕ
 read_on base n [] = Some n
 read_on base n (c ∷ cs) =
@@ -34,9 +35,9 @@ unfoldable pub digits : ℕ → ℕ → List ℕ → Option ℕ
 digits base most text = if nat_le 1 (length text) && nat_le (length text) most then read_on base 0 text else None
 
 -- a number: 1 to 20 decimal digits, or `0x` and 1 to 16 hexadecimal digits of either case
-unfoldable pub number : List ℕ → Option ℕ
-number (a ∷ b ∷ rest) = if a == digit_zero && b == letter_x then digits 16 16 rest else digits 10 20 (a ∷ b ∷ rest)
-number text = digits 10 20 text
+unfoldable pub parsed_number : List ℕ → Option ℕ
+parsed_number (a ∷ b ∷ rest) = if a == digit_zero && b == letter_x then digits 16 16 rest else digits 10 20 (a ∷ b ∷ rest)
+parsed_number text = digits 10 20 text
 
 -- the texts before and behind place i
 abbrev pub around : List ℕ → ℕ → List ℕ × List ℕ

@@ -1,5 +1,5 @@
-//! Parts of texts that several crates share: numbers, registers, the texts around a byte, and names that are printed. A text
-//! is its bytes.
+//! Parts of texts that several crates share: numbers, registers, the texts around a byte, and names that are printed. A
+//! text is its bytes.
 #![tactic(auto)]
 
 mod names;

@@ -19,8 +19,8 @@ fn is_from_to(first: char, last: char, c: char) -> bool
     first <= c && c <= last
 }
 
-/// Whether a character directs the terminal or the order of a text: a control character (general category Cc), a line or paragraph
-/// separator (Zl, Zp), or one of Bidi_Control.
+/// Whether a character directs the terminal or the order of a text: a control character (general category Cc), a line
+/// or paragraph separator (Zl, Zp), or one of Bidi_Control.
 #[tactic(auto, unfolding(crate::specs::Names::is_hidden))]
 fn is_hidden(c: char) -> bool
     ensures { result ≡ is_hidden_of c }
@@ -59,8 +59,8 @@ fn push_character(
     }
 }
 
-/// The first character of a name with its bytes, and the rest. Where no character begins the name, its bytes are the longest front that
-/// could begin one.
+/// The first character of a name with its bytes, and the rest. If no character begins the name, its bytes are the
+/// longest front that could begin one.
 #[tactic(auto, using(crate::proofs::Cut::size_fits))]
 fn first_character(name: &[u8]) -> (Option<char>, &[u8], &[u8])
     requires { 0 < length name.now }
@@ -73,8 +73,8 @@ fn first_character(name: &[u8]) -> (Option<char>, &[u8], &[u8])
     (character, front, rest)
 }
 
-/// The first `most` characters of a name, as a text that may be printed: control characters, and bytes that are not UTF-8, are escaped
-/// as `\x1b`. `...` stands behind a name that is cut.
+/// The first `most` characters of a name, as a text that may be printed: control characters, and bytes that are not
+/// UTF-8, are escaped as `\x1b`. `...` stands behind a name that is cut.
 pub fn printable(alloc: Global, name: &[u8], most: usize) -> Result<String, AllocError>
     ensures { IfOk result (λ text. string_bytes text ≡ printable_of most name.now) }
 {

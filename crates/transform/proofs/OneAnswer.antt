@@ -10,7 +10,7 @@ use Rattle.machine.specs.Limits.{limit_of}
 use Rattle.tests.specs.Admission.Refusals.{IsAdmitted, IsRefusedBy}
 use Rattle.tests.specs.Files.File.{IsReadAs}
 use Rattle.tests.specs.Elf.Layout.{written}
-use Rattle.tests.specs.Files.Refusals.{IsRefused}
+use Rattle.tests.specs.Files.Refusals.{IsFileRefused}
 use Rattle.qed_model.specs.Weave.Blocks.{AreBlocks, ElfFile, Options}
 use Rattle.qed_model.specs.Weave.Sequences.{Block}
 use Rattle.qed_model.specs.Weave.Woven.{new_code, size_of_code}
@@ -22,7 +22,7 @@ use Rattle.transform.specs.declared.error.TransformError.TheVariants as error
 use Rattle.transform.specs.Transform.{HasCause, IsNotAdmitted, HasTooMuchCode, IsFew, Transforms, IsTransformable, IsErrorOr, IsDoneOr}
 
 -- bytes are refused by one rule
-pub same_refusal : (input : List ℕ) (a b : ElfError) → IsRefused input a → IsRefused input b → a ≡ b
+pub same_refusal : (input : List ℕ) (a b : ElfError) → IsFileRefused input a → IsFileRefused input b → a ≡ b
 same_refusal input a b x y = let p = x.first in let q = y.first in cc
 
 module _ (input : List ℕ) (o : Options) where

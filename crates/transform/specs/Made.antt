@@ -28,7 +28,7 @@ pub record IsCoded (c : NewCode) (f : ElfFile) (o : Options) (made : Coded) : Ty
   pub few : size_of_code c ≤ limit_of c.limit
 
 -- the file with the new code of the test, and its plan
-pub record IsMade (f : ElfFile) (o : Options) (blocks : List CodeBlock) (out : OutFile) (plan : Plan) : Type 0 where
+pub record IsMadeFile (f : ElfFile) (o : Options) (blocks : List CodeBlock) (out : OutFile) (plan : Plan) : Type 0 where
   pub words : List ℕ
   pub test : IsTest (code_for f o blocks) f o (map block_of blocks) words
   pub file : out ≡ file_with (code_for f o blocks) f o words

@@ -8,7 +8,7 @@ ghost use Rattle.tests.specs.Files.File.{IsReadAs};
 ghost use Rattle.machine.specs.Apart.{AllFitMemory, AreApart};
 ghost use Rattle.machine.specs.Loading.{load_segments};
 ghost use Rattle.weave.specs.Code.{IsCut};
-ghost use Rattle.transform.specs.Made.{code_for, IsCoded, IsMade, Exceeds};
+ghost use Rattle.transform.specs.Made.{code_for, IsCoded, IsMadeFile, Exceeds};
 ghost use Rattle.transform.specs.Transform.{HasCause};
 
 use crate::code::Coded;
@@ -30,7 +30,8 @@ pub(crate) struct Made {
 
 /// The size of a file if symbols that take `room` bytes are added. None if those are 2^128 or more.
 fn size_with(bare: &OutFile, room: u128) -> Option<u128>
-    ensures { IfSome result (λ size. (symbols : List Symbol) → bare.now.symbols ≡ [] → room ≡ symbols_room symbols → size ≡ length (written (record bare.now { symbols = symbols }))) }
+    ensures { IfSome result (λ size. (symbols : List Symbol) → bare.now.symbols ≡ []
+        → room ≡ symbols_room symbols → size ≡ length (written (record bare.now { symbols = symbols }))) }
 {
     // The section headers are last, at the next multiple of 8 behind the names of the sections.
     // Without symbols those names end `gap` bytes before it.
@@ -43,7 +44,8 @@ fn size_with(bare: &OutFile, room: u128) -> Option<u128>
 /// Tests the limits on segments and then on bytes, of a file without symbols, as if it had symbols
 /// of `room` bytes. So no names are copied for a file that is too long, if its size is below 2^128.
 fn check_bare(bare: &OutFile, room: u128) -> Result<(), TransformError>
-    ensures { IfErr result (λ e. (symbols : List Symbol) → bare.now.symbols ≡ [] → room ≡ symbols_room symbols → Exceeds (record bare.now { symbols = symbols }) e) }
+    ensures { IfErr result (λ e. (symbols : List Symbol)
+        → bare.now.symbols ≡ [] → room ≡ symbols_room symbols → Exceeds (record bare.now { symbols = symbols }) e) }
 {
     let segments = bare.segments.as_slice().len() as u64;
     if segments > MAX_OUTPUT_SEGMENTS {
@@ -59,9 +61,13 @@ fn check_bare(bare: &OutFile, room: u128) -> Result<(), TransformError>
 pub(crate) fn make(alloc: Global, cut: &CutTest, code: &Coded) -> Result<Made, TransformError>
     requires fit { AllFitMemory (load_segments cut.now.file.segments) }
     requires apart { AreApart (load_segments cut.now.file.segments) }
-    requires coded { (o : TestOptions) × IsCut cut.now.file o cut.now.test cut.now.blocks × IsCoded (code_for cut.now.file o cut.now.blocks) cut.now.file o code.now }
-    ensures made { IfOk result (λ made. (o : TestOptions) → IsCut cut.now.file o cut.now.test cut.now.blocks → IsCoded (code_for cut.now.file o cut.now.blocks) cut.now.file o code.now → IsMade cut.now.file o cut.now.blocks made.out made.plan) }
-    ensures refused { IfErr result (λ e. (o : TestOptions) (input : List ℕ) → IsReadAs input cut.now.file → IsCut cut.now.file o cut.now.test cut.now.blocks → IsCoded (code_for cut.now.file o cut.now.blocks) cut.now.file o code.now → HasCause input o e) }
+    requires coded { (o : TestOptions) × IsCut cut.now.file o cut.now.test cut.now.blocks
+        × IsCoded (code_for cut.now.file o cut.now.blocks) cut.now.file o code.now }
+    ensures made { IfOk result (λ made. (o : TestOptions) → IsCut cut.now.file o cut.now.test cut.now.blocks
+        → IsCoded (code_for cut.now.file o cut.now.blocks) cut.now.file o code.now → IsMadeFile cut.now.file o cut.now.blocks made.out made.plan) }
+    ensures refused { IfErr result (λ e. (o : TestOptions) (input : List ℕ)
+        → IsReadAs input cut.now.file → IsCut cut.now.file o cut.now.test cut.now.blocks
+        → IsCoded (code_for cut.now.file o cut.now.blocks) cut.now.file o code.now → HasCause input o e) }
 {
     let (blocks, entries) = (cut.blocks.as_slice(), code.linked.entries.as_slice());
     let bytes = 4 * code.linked.words.len() as u64;

@@ -19,7 +19,7 @@ use Rattle.weave_core.specs.Blocks.{AllFit}
 use Rattle.weave_core.proofs.Lemmas.{is_fence_class, IsKnownCode, low_instruction, fits_piece, body_fits}
 use Rattle.weave_core.proofs.FileOfItems as file
 use Rattle.block_split.specs.declared.block.CodeBlock.{CodeBlock}
-use Rattle.block_split.specs.Listed.{end_of, block_of, IsWithin}
+use Rattle.block_split.specs.Listed.{end_of, block_of, IsWithinTop}
 use Rattle.weave.specs.Fits.{FitsLeave, FitsEnd, FitsBlock}
 use Rattle.weave.specs.Admitted.{BlocksFit}
 
@@ -50,7 +50,7 @@ module _ (f : ElfFile) (code : IsKnownCode f) where
   stop_fits o (Some i) n a s = leaves a i s.0 s.1
 
   module _ (o : Options) (top : ℕ) (some : 1 ≤ o.inst_max) (small : top < 2 ^ 64) where
-    leader_fits : (b : CodeBlock) → IsWithin top b → IsLeaderBlock f o (block_of b) → FitsBlock b
+    leader_fits : (b : CodeBlock) → IsWithinTop top b → IsLeaderBlock f o (block_of b) → FitsBlock b
     leader_fits b w l =
         let same : l.body ≡ b.body = sym (pieces_whole o.inst_max l.body (divided b.lengths b.body) some l.pieces) ∙ pieces_make b.lengths b.body w.whole in
         let low = w.below in
@@ -62,7 +62,7 @@ module _ (f : ElfFile) (code : IsKnownCode f) where
           low = fit;
         }
 
-    short_fits : (b : CodeBlock) → IsWithin top b → (i : Ins) → instruction_at f b.start ≡ Some i → (e : Option Ins) → IsShort i (divided b.lengths b.body) (end_of e) → AllFit b.body × FitsEnd e
+    short_fits : (b : CodeBlock) → IsWithinTop top b → (i : Ins) → instruction_at f b.start ≡ Some i → (e : Option Ins) → IsShort i (divided b.lengths b.body) (end_of e) → AllFit b.body × FitsEnd e
     short_fits b w i h None s =
         let same : i ∷ [] ≡ b.body = sym (ap whole s.1) ∙ pieces_make b.lengths b.body w.whole in
         (subst AllFit same (fits_piece f code b.start i h s.0, tt), tt)
@@ -70,20 +70,20 @@ module _ (f : ElfFile) (code : IsKnownCode f) where
         let same : [] ≡ b.body = sym (ap whole s.1) ∙ pieces_make b.lengths b.body w.whole in
         (subst AllFit same tt, subst (λ j. FitsEnd (Some j)) (sym s.2) (leaves b.start i h s.0))
 
-    other_fits : (b : CodeBlock) → IsWithin top b → IsOtherBlock f o (block_of b) → FitsBlock b
+    other_fits : (b : CodeBlock) → IsWithinTop top b → IsOtherBlock f o (block_of b) → FitsBlock b
     other_fits b w q =
         let low = w.below in
         let p = short_fits b w q.instruction q.stands b.end q.short in
         record { body = p.0; end = p.1; whole = w.whole; low = omega (arith, low, small) }
 
-    all_fit : (bs : List CodeBlock) → All (IsWithin top) bs → All (IsBlockOf f o) (map block_of bs) → All FitsBlock bs
+    all_fit : (bs : List CodeBlock) → All (IsWithinTop top) bs → All (IsBlockOf f o) (map block_of bs) → All FitsBlock bs
     all_fit [] w h = All-nil FitsBlock
     all_fit (b ∷ bs) w h =
         let x = All-head (IsBlockOf f o) (block_of b) (map block_of bs) h in
-        let v = All-head (IsWithin top) b bs w in
+        let v = All-head (IsWithinTop top) b bs w in
         All-cons FitsBlock b bs
         (⊎_elim (λ l. leader_fits b v l) (λ q. other_fits b v q) x)
-        (all_fit bs (All-tail (IsWithin top) b bs w) (All-tail (IsBlockOf f o) (block_of b) (map block_of bs) h))
+        (all_fit bs (All-tail (IsWithinTop top) b bs w) (All-tail (IsBlockOf f o) (block_of b) (map block_of bs) h))
 
 -- ---- all blocks of a test
 -- the words of the test stand at code addresses

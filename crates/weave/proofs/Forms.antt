@@ -31,7 +31,7 @@ use Rattle.relinker.proofs.Linkable.{decoded, ascending}
 use Rattle.weave.specs.Form.{form, form_with, kind, items_to_stub}
 use Rattle.weave.proofs.WholeCode.{items_are_whole, spans_are}
 use Rattle.weave_core.proofs.Lemmas.{are_rows, tests_have_words}
-use Rattle.weave.specs.Code.{items_of, code_begin, IsCut, IsWoven, HasCause}
+use Rattle.weave.specs.Code.{items_of, code_begin, IsCut, IsWoven, HasCodeCause}
 use Rattle.weave.proofs.CodeBytes.{few_bytes}
 use Rattle.weave.proofs.DataWords.{few_data}
 
@@ -109,7 +109,7 @@ module _ (f : ElfFile) (o : Options) (t : Test) (blocks : List CodeBlock) (cut :
   }
 
   -- why the items are not linked
-  pub cause_of : (far : Bool) (x : LinkError) → is_far_code f o bs ≡ far → HasLinkCause far (items_of t o far blocks) x → far ≡ true → HasCause (compared f o bs) x
+  pub cause_of : (far : Bool) (x : LinkError) → is_far_code f o bs ≡ far → HasLinkCause far (items_of t o far blocks) x → far ≡ true → HasCodeCause (compared f o bs) x
   cause_of far (error.TooLarge n) e c is_far =
       let b = cut.blocked in
       let exact = few_bytes f o b.sound b.file.loads b.admitted bs b.are in
@@ -133,7 +133,7 @@ module _ (f : ElfFile) (o : Options) (t : Test) (blocks : List CodeBlock) (cut :
       (cases_lt 1048576 n)
 
   -- why the form that is taken is not written
-  pub cause : (far : Bool) (x : LinkError) → is_far_code f o bs ≡ far → HasLinkCause far (items_of t o far blocks) x → HasCause (compared f o bs) x
+  pub cause : (far : Bool) (x : LinkError) → is_far_code f o bs ≡ far → HasLinkCause far (items_of t o far blocks) x → HasCodeCause (compared f o bs) x
   cause true x e c = cause_of true x e c refl
   cause false (error.TooLarge n) e c = absurd (true_false (sym (far_taken (λ h. omega (arith, c.0, c.1, h))) ∙ e)) where
     true_false : true ≡ false → ⊥

@@ -15,7 +15,7 @@ use Rattle.relinker.specs.Link.{IsWithinForm}
 use Rattle.plc_rounds.specs.Spans.{spans_of}
 use Rattle.weave.specs.declared.weaver.Weaver.{Weaver}
 use Rattle.weave.specs.Form.{form, form_with, kind}
-use Rattle.weave.specs.Code.{items_of, code_begin, IsCut, IsWoven, HasCause}
+use Rattle.weave.specs.Code.{items_of, code_begin, IsCut, IsWoven, HasCodeCause}
 use Rattle.weave.proofs.Forms.{code_of, cause}
 
 module _ (o : Options) (t : Test) (blocks : List CodeBlock) (far : Bool) (taken : (f : ElfFile) → IsCut f o t blocks → is_far_code f o (map block_of blocks) ≡ far) where
@@ -27,6 +27,6 @@ module _ (o : Options) (t : Test) (blocks : List CodeBlock) (far : Bool) (taken 
   code_result (Err e) same h l = tt
 
   pub code_error :
-      (r : Result (Woven Weaver) LinkError) → IfErr r (HasLinkCause far (items_of t o far blocks)) → IfErr r (λ e. (f : ElfFile) → IsCut f o t blocks → HasCause (compared f o (map block_of blocks)) e)
+      (r : Result (Woven Weaver) LinkError) → IfErr r (HasLinkCause far (items_of t o far blocks)) → IfErr r (λ e. (f : ElfFile) → IsCut f o t blocks → HasCodeCause (compared f o (map block_of blocks)) e)
   code_error (Ok made) c = tt
   code_error (Err e) c = λ f cut. cause f o t blocks cut far e (taken f cut) c

@@ -29,7 +29,7 @@ use Rattle.weave.specs.Fits.{FitsBlock}
 use Rattle.weave.specs.Form.{form_with}
 use Rattle.weave.specs.declared.size.Sizes.{Sizes}
 use Rattle.weave.specs.Code.{items_of}
-use Rattle.weave.specs.Sizes.{guard_bytes, guards_bytes, original_as_bytes, original_bytes, mirror_as_bytes, mirrored_bytes, diverse_bytes, mirror_bytes, body_bytes, word_bytes, end_bytes, AreSizes, links_bytes, leave_as_bytes, leave_bytes, block_bytes, blocks_bytes, prologue_bytes}
+use Rattle.weave.specs.Sizes.{guard_room, guards_bytes, original_as_bytes, original_bytes, mirror_as_bytes, mirrored_bytes, diverse_bytes, mirror_bytes, body_bytes, visited_room, end_bytes, AreSizes, links_bytes, leave_as_bytes, leave_bytes, block_bytes, blocks_bytes, prologue_bytes}
 use Rattle.weave.proofs.ItemBytes.{parts_size, wraps_size, times_size, sweep_size}
 
 -- ---- instructions
@@ -41,12 +41,12 @@ module _ (far : Bool) where
   size_cond true xs ys m n h k = h
   size_cond false xs ys m n h k = k
 
-  pub guard_is : (r : ℕ) → size (guard r) ≡ guard_bytes r
+  pub guard_is : (r : ℕ) → size (guard r) ≡ guard_room r
   guard_is r = size_cond (r == 0) [] (Plain (ins Beq 0 r (r + PAIR_DISTANCE) (pos 8)) ∷ fired_check ∷ []) 0 8 refl refl
 
   guards_are : (i : Ins) → size (guards_of i) ≡ guards_bytes i
   guards_are i =
-      let b = size_cond (i.rs2 == i.rs1) [] (guard i.rs2) 0 (guard_bytes i.rs2) refl (guard_is i.rs2) in
+      let b = size_cond (i.rs2 == i.rs1) [] (guard i.rs2) 0 (guard_room i.rs2) refl (guard_is i.rs2) in
       omega (arith, guard_is i.rs1, b, size-append far (guard i.rs1) (cond (i.rs2 == i.rs1) [] (guard i.rs2)))
 
   original_is : (i : Ins) (at : ℕ) → size (original i at) ≡ original_bytes i
@@ -89,11 +89,11 @@ module _ (far : Bool) where
   spans_many [] = refl
   spans_many (r ∷ rs) = ap suc (spans_many rs)
 
-  word_is : (rs : List Range) → size (visit_word (spans_of rs)) ≡ word_bytes rs
+  word_is : (rs : List Range) → size (visit_word (spans_of rs)) ≡ visited_room rs
   word_is [] = refl
   word_is (r ∷ rs) = omega (arith, wraps_size far (spans_of (r ∷ rs)) r.start, spans_many rs)
 
-  pub visit_is : (n : ℕ) (rs : List Range) → size (visit n (spans_of rs)) ≡ n * word_bytes rs
+  pub visit_is : (n : ℕ) (rs : List Range) → size (visit n (spans_of rs)) ≡ n * visited_room rs
   visit_is n rs = times_size far n (visit_word (spans_of rs)) ∙ ap (λ m. n * m) (word_is rs)
 
   end_is : (sweeps : Bool) (rs : List Range) → size (cond sweeps (sweep (spans_of rs) ++ compare) []) ≡ end_bytes sweeps rs

@@ -36,7 +36,8 @@ pub record IsCut (f : ElfFile) (o : Options) (t : Test) (blocks : List CodeBlock
   pub blocked : IsTestInBlocks f o t.code blocks
 
 -- the words and entries of this new code, within its limit; their maker has its kind and parts, and accepts the blocks
-pub record IsWoven (c : NewCode) (f : ElfFile) (o : Options) (t : Test) (blocks : List CodeBlock) (kind : CodeKind) (made : Parts) (is_for : CodeBlock → Type 0) (linked : Linked) : Type 0 where
+pub record IsWoven (c : NewCode) (f : ElfFile) (o : Options) (t : Test)
+    (blocks : List CodeBlock) (kind : CodeKind) (made : Parts) (is_for : CodeBlock → Type 0) (linked : Linked) : Type 0 where
   pub code : IsCodeFor c f o linked.words.items
   pub entries : linked.entries.items ≡ entries_in c f o
   pub few : size_of_code c ≤ limit_of c.limit
@@ -47,6 +48,6 @@ pub record IsWoven (c : NewCode) (f : ElfFile) (o : Options) (t : Test) (blocks 
   pub bounds : kind.bounds (shape_of f o c.far) ≡ c.bounds
 
 -- the new code has n bytes, which is too many
-abbrev pub HasCause : NewCode → LinkError → Type 0
-HasCause c (error.TooLarge n) = (n ≡ size_of_code c) × (limit_of c.limit < n)
-HasCause c error.Memory = Unit {0}
+abbrev pub HasCodeCause : NewCode → LinkError → Type 0
+HasCodeCause c (error.TooLarge n) = (n ≡ size_of_code c) × (limit_of c.limit < n)
+HasCodeCause c error.Memory = Unit {0}

@@ -14,12 +14,12 @@ abbrev pub is_end_as : Class → Bool
 is_end_as class.End = true
 is_end_as c = false
 
-abbrev pub is_end : Option Ins → Bool
-is_end None = false
-is_end (Some i) = is_end_as (class_of i.kind)
+abbrev pub is_ecall_end : Option Ins → Bool
+is_ecall_end None = false
+is_ecall_end (Some i) = is_end_as (class_of i.kind)
 
 abbrev pub before_parts : Form → Option Ins → List (Role × List Item)
-before_parts form end = cond (is_end end) ((role.Sweep, before_end form) ∷ []) []
+before_parts form end = cond (is_ecall_end end) ((role.Sweep, before_end form) ∷ []) []
 
 abbrev pub last_as : Form → Class → Ins → ℕ → List Item
 last_as form class.End i at = Plain i ∷ []

@@ -16,15 +16,15 @@ use Rattle.weave.specs.declared.size.Sizes.{Sizes}
 
 -- ---- an instruction of a piece
 -- the comparison of a register with its pair, and those of both source registers
-abbrev pub guard_bytes : ℕ → ℕ
-guard_bytes r = cond (r == 0) 0 8
+abbrev pub guard_room : ℕ → ℕ
+guard_room r = cond (r == 0) 0 8
 
 abbrev pub guards_bytes : Ins → ℕ
-guards_bytes i = guard_bytes i.rs1 + cond (i.rs2 == i.rs1) 0 (guard_bytes i.rs2)
+guards_bytes i = guard_room i.rs1 + cond (i.rs2 == i.rs1) 0 (guard_room i.rs2)
 
 -- the original part of an instruction
 abbrev pub original_as_bytes : Class → Ins → ℕ
-original_as_bytes class.Load i = guard_bytes i.rs1 + 4
+original_as_bytes class.Load i = guard_room i.rs1 + 4
 original_as_bytes class.Store i = guards_bytes i + 4
 original_as_bytes _ i = 4
 
@@ -55,9 +55,9 @@ body_bytes other (i ∷ is) = original_bytes i + mirror_bytes other i + body_byt
 
 -- ---- what the sizes of blocks depend on besides the blocks
 -- the visit of a data word, and the comparisons before an ECALL
-abbrev pub word_bytes : List Range → ℕ
-word_bytes [] = 0
-word_bytes (r ∷ rs) = 24 + 20 * length (r ∷ rs)
+abbrev pub visited_room : List Range → ℕ
+visited_room [] = 0
+visited_room (r ∷ rs) = 24 + 20 * length (r ∷ rs)
 
 abbrev pub end_bytes : Bool → List Range → ℕ
 end_bytes sweep rs = cond sweep (44 * length rs + 104) 0
@@ -65,7 +65,7 @@ end_bytes sweep rs = cond sweep (44 * length rs + 104) 0
 pub record AreSizes (s : Sizes) (o : Options) (far : Bool) (span : List Range) : Type 0 where
   pub diverse : s.diverse ≡ o.diverse
   pub go : s.go ≡ go_size far
-  pub piece : s.piece ≡ 104 + o.round * word_bytes span
+  pub piece : s.piece ≡ 104 + o.round * visited_room span
   pub end : s.end ≡ end_bytes o.sweep span
 
 -- ---- blocks
@@ -78,7 +78,7 @@ abbrev pub leave_as_bytes : Sizes → Class → Ins → ℕ
 leave_as_bytes s class.End i = s.end + 4
 leave_as_bytes s class.Jump i = links_bytes i + 8 + s.go
 leave_as_bytes s class.Branch i = 28 + guards_bytes i + 2 * s.go
-leave_as_bytes s class.JumpReg i = 36 + guard_bytes i.rs1 + links_bytes i
+leave_as_bytes s class.JumpReg i = 36 + guard_room i.rs1 + links_bytes i
 leave_as_bytes s _ i = 4
 
 abbrev pub leave_bytes : Sizes → Option Ins → ℕ

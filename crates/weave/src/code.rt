@@ -11,7 +11,7 @@ ghost use Rattle.relinker.specs.Link.{IsWithinForm, LinksWithin};
 ghost use Rattle.weave.specs.Fits.{FitsBlock};
 ghost use Rattle.weave.specs.Form.{code_to_stub, form, form_with, kind};
 ghost use Rattle.plc_rounds.specs.Spans.{spans_of};
-ghost use Rattle.weave.specs.Code.{items_of, code_begin, IsCut, IsWoven, HasCause};
+ghost use Rattle.weave.specs.Code.{items_of, code_begin, IsCut, IsWoven, HasCodeCause};
 
 use crate::count::counted_by_blocks;
 use crate::size::code_size;
@@ -75,7 +75,8 @@ pub fn roles<W: Weaving>(
     requires half { test.now.distance < 2 ^ 63 }
     requires fit { All FitsBlock blocks.now }
     requires own { All (W.is_for weaver.now) blocks.now }
-    ensures { IfOk result (λ rows. rows.items ≡ role_rows (W.kind weaver.now).far (code_parts (W.parts weaver.now) test.now.distance test.now.entry (map block_of blocks.now))) }
+    ensures { IfOk result (λ rows. rows.items ≡ role_rows (W.kind weaver.now).far
+        (code_parts (W.parts weaver.now) test.now.distance test.now.entry (map block_of blocks.now))) }
 {
     let far = weaver.far();
     let roles = weave(alloc, weaver, test, blocks, Roles::new(alloc, far))?;
@@ -156,8 +157,11 @@ pub fn woven_code(
     blocks: &[CodeBlock],
 ) -> Result<Woven<Weaver>, LinkError>
     requires { (f : ElfFile) × IsCut f options.now test.now blocks.now }
-    ensures code { IfOk result (λ woven. (f : ElfFile) → IsCut f options.now test.now blocks.now → IsWoven (compared f options.now (map block_of blocks.now)) f options.now test.now blocks.now (kind woven.weaver) (parts (form woven.weaver)) (λ b. Unit {0}) woven.linked) }
-    ensures cause { IfErr result (λ e. (f : ElfFile) → IsCut f options.now test.now blocks.now → HasCause (compared f options.now (map block_of blocks.now)) e) }
+    ensures code { IfOk result (λ woven. (f : ElfFile) → IsCut f options.now test.now blocks.now
+        → IsWoven (compared f options.now (map block_of blocks.now)) f options.now test.now blocks.now
+        (kind woven.weaver) (parts (form woven.weaver)) (λ b. Unit {0}) woven.linked) }
+    ensures cause { IfErr result (λ e. (f : ElfFile)
+        → IsCut f options.now test.now blocks.now → HasCodeCause (compared f options.now (map block_of blocks.now)) e) }
 {
     let far = is_far(test, options, blocks);
     code_in(alloc, test, options, blocks, far)

@@ -75,8 +75,10 @@ pub fn weave_halves<S: ItemSink>(
 ) -> Result<(), AllocError>
     requires fits { AllFit list.now }
     requires low { at + 4 * length list.now < 2 ^ 64 }
-    requires come { Comes (S.took to.old.sink) to.old.items (each_parts role.Original original list.now at ++ each_parts role.Mirror (mirror_of mirrors.now.diverse) list.now at) }
-    ensures { OnOk result (Handed (S.took to.old.sink) (S.took to.new.sink) to.new.items (each_parts role.Original original list.now at ++ each_parts role.Mirror (mirror_of mirrors.now.diverse) list.now at)) }
+    requires come { Comes (S.took to.old.sink) to.old.items (each_parts role.Original original list.now at
+        ++ each_parts role.Mirror (mirror_of mirrors.now.diverse) list.now at) }
+    ensures { OnOk result (Handed (S.took to.old.sink) (S.took to.new.sink) to.new.items
+        (each_parts role.Original original list.now at ++ each_parts role.Mirror (mirror_of mirrors.now.diverse) list.now at)) }
 {
     let originals = Guarded { pass: Original };
     weave_each(&originals, Half::Original, list, at, to)?;

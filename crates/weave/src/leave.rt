@@ -5,7 +5,7 @@ ghost use Rattle.qed_model.specs.Weave.Sequences.{before_end};
 ghost use Rattle.weave.specs.Fits.{FitsBlock, FitsEnd, FitsLeave};
 ghost use Rattle.weave.specs.Form.{form};
 ghost use Rattle.weave.specs.Handed.{Comes, Handed};
-ghost use Rattle.weave.specs.Leaves.{before_parts, last_as, last_items, is_end as ends};
+ghost use Rattle.weave.specs.Leaves.{before_parts, last_as, last_items, is_ecall_end as ends};
 
 use crate::{PartSink, Weaver};
 use block_split::CodeBlock;

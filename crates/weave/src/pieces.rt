@@ -6,7 +6,7 @@ ghost use Rattle.qed_model.specs.Weave.Bounds.{cost_of};
 ghost use Rattle.qed_model.specs.Weave.Forms.{mirror_of};
 ghost use Rattle.qed_model.specs.Weave.Sequences.{Form, piece as piece_of};
 ghost use Rattle.passes.specs.Pass.{Honest, Lockstep};
-ghost use Rattle.weave.specs.Piece.{any, piece_items, PieceLeads};
+ghost use Rattle.weave.specs.Piece.{any, passes_items, PieceLeads};
 
 use eddi_dup::{CompareAll, Original};
 use guard_insert::Guarded;
@@ -53,9 +53,13 @@ pub fn woven_piece(
 ) -> Result<Emit, AllocError>
     requires fits { AllFit list.now }
     requires low { first + 4 * length list.now < 2 ^ 64 }
-    ensures items { IfOk result (λ out. out ≡ piece_items (mirror_of passes.now.second.first.pass.diverse) passes.now.second.second.pass.second.round (spans_of passes.now.second.second.pass.second.span) list.now first) }
-    ensures woven { IfOk result (λ out. (form : Form) → form.mirror ≡ mirror_of passes.now.second.first.pass.diverse → form.round ≡ passes.now.second.second.pass.second.round → form.spans ≡ spans_of passes.now.second.second.pass.second.span → out ≡ piece_of form list.now first) }
-    ensures leads { IfOk result (λ out. PieceLeads (cost_of passes.now.second.first.pass.diverse) passes.now.second.second.pass.second.round (spans_of passes.now.second.second.pass.second.span) out list.now first) }
+    ensures items { IfOk result (λ out. out ≡ passes_items (mirror_of passes.now.second.first.pass.diverse)
+        passes.now.second.second.pass.second.round (spans_of passes.now.second.second.pass.second.span) list.now first) }
+    ensures woven { IfOk result (λ out. (form : Form) → form.mirror ≡ mirror_of passes.now.second.first.pass.diverse
+        → form.round ≡ passes.now.second.second.pass.second.round
+        → form.spans ≡ spans_of passes.now.second.second.pass.second.span → out ≡ piece_of form list.now first) }
+    ensures leads { IfOk result (λ out. PieceLeads (cost_of passes.now.second.first.pass.diverse)
+        passes.now.second.second.pass.second.round (spans_of passes.now.second.second.pass.second.span) out list.now first) }
     ensures honest { IfOk result (λ out. Honest any out) }
     ensures lockstep { IfOk result (λ out. Lockstep any [] out) }
 {

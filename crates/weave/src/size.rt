@@ -6,7 +6,8 @@ ghost use Rattle.qed_model.specs.Weave.Placed.{go_size, sum_of_sizes};
 ghost use Rattle.relinker.specs.Counted.{capped};
 ghost use Rattle.weave.specs.Fits.{FitsBlock};
 ghost use Rattle.weave.specs.Code.{items_of};
-ghost use Rattle.weave.specs.Sizes.{guard_bytes, guards_bytes, original_bytes, mirrored_bytes, diverse_bytes, mirror_bytes, body_bytes, links_bytes, leave_bytes, block_bytes, blocks_bytes, prologue_bytes, word_bytes, end_bytes, AreSizes};
+ghost use Rattle.weave.specs.Sizes.{guard_room, guards_bytes, original_bytes, mirrored_bytes, diverse_bytes, mirror_bytes, body_bytes, links_bytes};
+ghost use Rattle.weave.specs.Sizes.{leave_bytes, block_bytes, blocks_bytes, prologue_bytes, visited_room, end_bytes, AreSizes};
 
 use block_split::CodeBlock;
 use mirror_forms::part_count;
@@ -15,7 +16,7 @@ use rv_isa::{Class, Ins, Kind, Reg};
 
 /// The bytes of the comparison of a register with its pair.
 fn guard_size(r: Reg) -> u64
-    ensures value { result ≡ guard_bytes r }
+    ensures value { result ≡ guard_room r }
     ensures bound { result ≤ 8 }
 {
     if r.number() == 0 { 0 } else { 8 }
@@ -117,7 +118,7 @@ pub(crate) struct Sizes {
 /// The bytes of the visit of a data word.
 fn word_size(span: &[Range]) -> u64
     requires { length span.now ≤ 67_108_864 }
-    ensures value { result ≡ word_bytes span.now }
+    ensures value { result ≡ visited_room span.now }
     ensures bound { result ≤ 1_342_177_304 }
 {
     if span.is_empty() {

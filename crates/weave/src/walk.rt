@@ -22,7 +22,8 @@ fn weave_pieces<W: Weaving, S: ItemSink>(
 ) -> Result<(), AllocError>
     requires fits { FitsBlock block.now }
     requires come { Comes (S.took to.old.sink) to.old.items (pieces_parts (W.parts weaver.now) (divided block.now.lengths block.now.body) block.now.start) }
-    ensures { OnOk result (Handed (S.took to.old.sink) (S.took to.new.sink) to.new.items (pieces_parts (W.parts weaver.now) (divided block.now.lengths block.now.body) block.now.start)) }
+    ensures { OnOk result (Handed (S.took to.old.sink) (S.took to.new.sink) to.new.items
+        (pieces_parts (W.parts weaver.now) (divided block.now.lengths block.now.body) block.now.start)) }
 {
     let mut rest = block.body.as_slice();
     let mut at = block.start;
@@ -85,7 +86,8 @@ pub fn weave<W: Weaving, S: ItemSink + Drop>(
     requires fit { All FitsBlock blocks.now }
     requires own { All (W.is_for weaver.now) blocks.now }
     requires come { ComeNext (S.took sink) (parts_to_stub (W.parts weaver.now) test.now.distance test.now.entry (map block_of blocks.now)) }
-    ensures { IfOk result (λ new. Takes (S.took sink) (S.took new) (parts_to_stub (W.parts weaver.now) test.now.distance test.now.entry (map block_of blocks.now))) }
+    ensures { IfOk result (λ new. Takes (S.took sink) (S.took new)
+        (parts_to_stub (W.parts weaver.now) test.now.distance test.now.entry (map block_of blocks.now))) }
 {
     let mut to = PartSink::new(alloc, sink);
     weaver.first(test.distance, test.entry, &mut to)?;

@@ -91,7 +91,8 @@ pub trait Weaving {
         requires fits { FitsBlock block.now }
         requires own { is_for self.now block.now }
         requires come { Comes (S.took to.old.sink) to.old.items ((parts self.now).leave (end_of block.now.end) (block.now.start + 4 * length block.now.body)) }
-        ensures { OnOk result (Handed (S.took to.old.sink) (S.took to.new.sink) to.new.items ((parts self.now).leave (end_of block.now.end) (block.now.start + 4 * length block.now.body))) };
+        ensures { OnOk result (Handed (S.took to.old.sink) (S.took to.new.sink) to.new.items
+            ((parts self.now).leave (end_of block.now.end) (block.now.start + 4 * length block.now.body))) };
 
     // Each item of the sequences is in one part.
     ghost whole: { (w : Self) → ArePartsOf (code w) (parts w) };

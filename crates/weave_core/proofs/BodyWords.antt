@@ -11,7 +11,7 @@ pub data IsBodyWord (i : Ins) : Type 0 where
   body_stores : class_of i.kind ≡ class.Store → IsBodyWord i
   body_fences : class_of i.kind ≡ class.Fence → IsBodyWord i
 
--- so is each that fits a piece
+-- each instruction that fits a piece is a word of a body
 pub body_word : (i : Ins) → FitsPiece i → IsBodyWord i
 body_word i f = by_class (class_of i.kind) refl f.body where
   by_class : (k : Class) → class_of i.kind ≡ k → IsBody k → IsBodyWord i

@@ -5,7 +5,7 @@ use Rattle.qed_model.specs.Weave.Costs.{cost_each}
 use Rattle.machine.proofs.Lemmas.{walk_none, walk_on}
 use Rattle.weave_core.specs.World.{Item, World, Quiet as Calm, State}
 use Rattle.weave_core.specs.KindItems.{LockItems}
-use Rattle.weave_core.specs.Pass.{Views, Stands, Chain, NeedsBoth, Does, same, Leads, Quiet, Lockstep, AllLow, AllSame}
+use Rattle.weave_core.specs.Pass.{Views, StandsAt, Chain, NeedsBoth, Does, same_state, Leads, Quiet, Lockstep, AllLow, AllSame}
 use Rattle.weave_core.specs.Each.{items_each, ForEach, NeedsEach, GivesEach, LeavesEach}
 use Rattle.weave_core.proofs.Rows.{led_none, led_on, At, Led}
 use Rattle.weave_core.proofs.Words.{guard_row}
@@ -32,13 +32,13 @@ pub quiet_then :
     → Quiet (λ f. sa f × sb f) (xs ++ ys) (λ w. NeedsBoth (na w) (ga w) (nb w)) (λ w v. Chain v m (ga w v) (gb w)) (λ w v k z. la w v k z ⊎ Chain v m (ga w v) (lb w) k z) (m + n)
 quiet_then sa sb xs ys na nb ga la gb lb m n a b = record {
   leads = λ w v rest suits st need.
-      let st1 : Stands w v (xs ++ (ys ++ rest)) = subst (Stands w v) (append_assoc xs ys rest) st in
+      let st1 : StandsAt w v (xs ++ (ys ++ rest)) = subst (StandsAt w v) (append_assoc xs ys rest) st in
       let x = a.leads w v (ys ++ rest) suits.0 st1 need.0 in
       on w v rest suits.1 need.1 x x.ends;
 } where
   on :
       (w : World) (v : Views) (rest : List Item) → sb w.form.far → ((k : ℕ) (y : Views) → ga w v k y → nb w y)
-      → (x : Leads w v m (ys ++ rest) (ga w v) (la w v)) → (Stands w x.to (ys ++ rest) × ga w v x.steps x.to) ⊎ la w v x.steps x.to
+      → (x : Leads w v m (ys ++ rest) (ga w v) (la w v)) → (StandsAt w x.to (ys ++ rest) × ga w v x.steps x.to) ⊎ la w v x.steps x.to
       → Leads w v (m + n) rest (Chain v m (ga w v) (gb w)) (λ k z. la w v k z ⊎ Chain v m (ga w v) (lb w) k z)
   on w v rest suits need x (inl p) =
       let y = b.leads w x.to rest suits p.0 (need x.steps x.to p.1) in
@@ -67,17 +67,17 @@ guards_led w (q ∷ qs) u s s' rest low e a =
 
 pub quiet_guards :
     (suits : Bool → Type 0) (qs : List ℕ) → AllLow qs
-    → Quiet suits (guards qs) (λ w v. AllSame qs v.original v.shadow) (λ w. Does w same same 0) (λ w v n z. ⊥) (length qs)
-quiet_guards suits qs low = record { leads = λ w v rest s st need. leads_led w v 0 (length qs) rest same same (guards_led w qs v.now v.original v.shadow rest low need st) }
+    → Quiet suits (guards qs) (λ w v. AllSame qs v.original v.shadow) (λ w. Does w same_state same_state 0) (λ w v n z. ⊥) (length qs)
+quiet_guards suits qs low = record { leads = λ w v rest s st need. leads_led w v 0 (length qs) rest same_state same_state (guards_led w qs v.now v.original v.shadow rest low need st) }
 
 -- a pass behind guards
 pub quiet_guarded :
     (s : Bool → Type 0) (qs : List ℕ) (xs : List Item) (needs : World → Views → Type 0) (gives leaves : World → Views → ℕ → Views → Type 0) (m : ℕ)
     → AllLow qs → Quiet s xs needs gives leaves m
-    → Quiet s (guards qs ++ xs) (λ w. NeedsBoth (λ v. AllSame qs v.original v.shadow) (Does w same same 0) (needs w)) (λ w v. Chain v (length qs) (Does w same same 0 v) (gives w)) (λ w v. Chain v (length qs) (Does w same same 0 v) (leaves w)) (length qs + m)
+    → Quiet s (guards qs ++ xs) (λ w. NeedsBoth (λ v. AllSame qs v.original v.shadow) (Does w same_state same_state 0) (needs w)) (λ w v. Chain v (length qs) (Does w same_state same_state 0 v) (gives w)) (λ w v. Chain v (length qs) (Does w same_state same_state 0 v) (leaves w)) (length qs + m)
 quiet_guarded s qs xs needs gives leaves m low a = record {
   leads = λ w v rest suits st need.
-      let both = quiet_then s s (guards qs) xs (λ w v. AllSame qs v.original v.shadow) needs (λ w. Does w same same 0) (λ w v n z. ⊥) gives leaves (length qs) m (quiet_guards s qs low) a in
+      let both = quiet_then s s (guards qs) xs (λ w v. AllSame qs v.original v.shadow) needs (λ w. Does w same_state same_state 0) (λ w v n z. ⊥) gives leaves (length qs) m (quiet_guards s qs low) a in
       let x = both.leads w v rest (suits, suits) st need in
       record { steps = x.steps; to = x.to; within = x.within; walk = x.walk; ends = ⊎_elim (λ p. inl p) (λ l. inr (⊎_elim (λ f. absurd f) (λ c. c) l)) x.ends };
 }

@@ -1,5 +1,5 @@
--- A file whose new code has the instructions of some items, with a mark for each block: it fits the input, reads as the items, and its table
--- leads to the marks.
+-- A file whose new code has the instructions of some items, with a mark for each block: it fits the input, reads as the
+-- items, and its table leads to the marks.
 use Rattle.std.proofs.Common.{◌≡◌, ℕ, ◌+◌, ◌%◌, ◌^◌, ◌≤◌, ⊎_elim, Bool, true, false, cond, List, [], ◌∷◌, refl, arith, inr, ◌-◌, ◌*◌, ◌<◌, ◌++◌, length, map, Option, Some, None, sym, ap, ◌∙◌, subst}
 use Rattle.std.proofs.lemmas.Bool.{false≢true, and_parts, or_cases, leb-true, eqb-true}
 use Rattle.std.specs.Prelude.{◌==◌, ◌&&◌, nat_le, All, slice_index, unwrap_or, IfSome}
@@ -227,7 +227,7 @@ module _ (f : ElfFile) (o : Options) (sound : AreSoundOptions o) (loads : AreLoa
     abbrev new_segment : LoadSegment
     new_segment = load_segment (code_segment at cs)
 
-    -- its size
+    -- the size of the code
     pub length-code : length cs ≡ sum_of_sizes far items
     length-code =
         let l : length words ≡ length (placed far at items) = sym (length-map words decode_of) ∙ ap length of.code ∙ length-map (placed far at items) Some in
@@ -317,7 +317,7 @@ module _ (f : ElfFile) (o : Options) (sound : AreSoundOptions o) (loads : AreLoa
     pub stand : HasAt y at (placed far at items)
     stand = has_decoded y at words (placed far at items) of.code new_fetches
 
-    -- and it reads as the items
+    -- the code reads as the items
     pub reads : Reads far y (entry_of far at items) at items
     reads =
         reads_placed far y at items of.distinct stand

@@ -1,4 +1,4 @@
--- A branch on originals, of which each way begins with a branch on the pairs that refuses the other way.
+-- A branch on originals; each way begins with a branch on the pairs that refuses the other way.
 use Rattle.std.proofs.Common.{◌≡◌, ℕ, ◌+◌, ◌-◌, ◌*◌, ◌%◌, ◌^◌, ◌<◌, ◌≤◌, Bool, true, false, not, cond, List, [], ◌∷◌, ◌++◌, length, refl, sym, ap, ◌∙◌, subst, arith, append_assoc}
 use Rattle.std.specs.Prelude.{◌==◌, ◌&&◌, ◌||◌, pos}
 use Rattle.std.proofs.lemmas.Bool.{eq-eqb, ne_eqb, le-leb, lt-leb, lt-ltb, and_from, and_left, and_right, or_left, or_right, or_from}
@@ -36,7 +36,7 @@ check_test k i is = rw (eq-eqb (way k) (way k) refl, eq-eqb (pair i.rs1) (pair i
 
 -- the branch b, over the way that it does not take
 module _ (b : Ins) (k : Kind) (n : ℕ) (xs ys : List Ins) (is_branch : class_of b.kind ≡ class.Branch) (low_one : b.rs1 ≤ LAST_ORIGINAL) (low_two : b.rs2 ≤ LAST_ORIGINAL) (other : opposite b.kind ≡ k) (over : b.imm ≡ pos n) (size : n ≡ 4 * length (b ∷ check_words k b ++ xs)) (near : n < 56) where
-  -- its target begins with the other check
+  -- the target of the branch begins with the other check
   at_other : (zs : List Ins) → at_target b.imm (b ∷ ((check_words k b ++ xs) ++ (check_words b.kind b ++ ys)) ++ zs) ≡ check_words b.kind b ++ (ys ++ zs)
   at_other zs =
       ap (λ z. at_target z (b ∷ ((check_words k b ++ xs) ++ (check_words b.kind b ++ ys)) ++ zs)) over
@@ -111,7 +111,7 @@ module _ (i : Ins) (is_branch : class_of i.kind ≡ class.Branch) (low_one : i.r
         subst Lockstep (ap (λ l. b ∷ l) (sym (instructions_then false e (a + 4) taken other)))
         (fork_words b i.kind (4 + (4 + (4 + sum_of_sizes false xs))) wx wy o.0 low_one low_two o.2 refl (omega (arith, size)) (omega (arith, near)) (check_items i.kind xs is_branch one e (a + 4)) (check_items (opposite i.kind) ys o.0 two e start))
 
-    -- and lead to where no register is closed
+    -- the words of a fork lead to where no register is closed
     pub fork_lands : LandItems false xs → LandItems false ys → LandItems false (fork i xs ys)
     fork_lands hx hy c e a zs far has open_zs ent =
         let o = opposite_is i.kind is_branch in
@@ -140,10 +140,10 @@ goes_near a t = elim (a == t) as (λ b. sum_of_sizes false (cond b [] (turn_by (
   by false = omega arith
 
 module _ (d : ℕ) (before : List Item) (fall : ℕ → List Item) (i : Ins) (a at : ℕ) (is_branch : class_of i.kind ≡ class.Branch) (low_one : i.rs1 ≤ LAST_ORIGINAL) (low_two : i.rs2 ≤ LAST_ORIGINAL) (one : LockItems false (goes a (target i at))) (two : LockItems false (turn a ((at + 4) % 2 ^ 64) ++ fall ((at + 4) % 2 ^ 64))) where
-  -- its words are of the kinds
+  -- the words of the branch's leave are of the kinds
   pub branch_items : LockItems false (leave_as d before fall class.Branch i a at)
   branch_items = fork_items i is_branch low_one low_two (goes a (target i at)) (turn a ((at + 4) % 2 ^ 64) ++ fall ((at + 4) % 2 ^ 64)) (goes_near a (target i at)) one two
 
-  -- and lead to where no register is closed
+  -- the words of the branch's leave lead to where no register is closed
   pub branch_lands : LandItems false (goes a (target i at)) → LandItems false (turn a ((at + 4) % 2 ^ 64) ++ fall ((at + 4) % 2 ^ 64)) → LandItems false (leave_as d before fall class.Branch i a at)
   branch_lands hx hy = fork_lands i is_branch low_one low_two (goes a (target i at)) (turn a ((at + 4) % 2 ^ 64) ++ fall ((at + 4) % 2 ^ 64)) (goes_near a (target i at)) one two hx hy

@@ -1,4 +1,4 @@
--- The forms of the code are a weave: they meet the laws of the rows and of the entry, so the promises follow from those of any weave.
+-- The forms of the code are a weave: by the laws of rows and entry the promises follow from those of any weave.
 use Rattle.std.proofs.Common.{◌≡◌, ℕ, zero, suc, ◌+◌, ◌*◌, ◌%◌, ◌^◌, ◌<◌, ◌≤◌, inl, inr, ⊎_elim, Bool, true, false, cond, List, [], ◌∷◌, ◌++◌, length, take, drop, refl, sym, ap, ◌∙◌, subst, arith, append_assoc, ◌-◌}
 use Rattle.std.specs.Prelude.{pos, slice_set}
 use Rattle.std.proofs.lemmas.Bool.{false≢true, and_parts, and_from, leb-true, ne_eqb, eq-eqb, eqb-true}
@@ -22,7 +22,7 @@ use Rattle.weave_core.specs.Rows.{At, Sourced, Mirrors}
 use Rattle.weave_core.specs.KindItems.{MirrorsFit}
 use Rattle.weave_core.specs.Promise.{WovenIn, start_of, ValuesKept, LandingsFire}
 use Rattle.weave_core.specs.Plan.{PlanKept, PlanLanded}
-use Rattle.weave_core.specs.Pass.{Views, Leads, Quiet, Lockstep, Does, same}
+use Rattle.weave_core.specs.Pass.{Views, Leads, Quiet, Lockstep, Does, same_state}
 use Rattle.weave_core.specs.Leaving.{swept_end, Signs}
 use Rattle.weave_core.proofs.Visit.{checked_behind, words_within, cursor_decided, cursor_is}
 use Rattle.weave_core.proofs.Source.{fit_front, has_front, not_trapped_le, source_run}
@@ -31,7 +31,7 @@ use Rattle.weave_core.proofs.Trails.{holds_of, met_going}
 use Rattle.tests.specs.Admission.DataRanges.{word_count}
 use Rattle.weave_core.proofs.Leaves.{step-end, step-branch, step-break}
 use Rattle.weave_core.specs.Each.{items_each, NeedsEach, GivesEach, LeavesEach}
-use Rattle.weave_core.specs.Parts.{any, bare, Runs, NeedsOriginal, GivesOriginal, LeavesOriginal, GivesMirror, LeavesMirror, ForOriginal, NeedsPiece, GivesPiece, LeavesPiece, piece_items, piece_cost, Checks}
+use Rattle.weave_core.specs.Parts.{any, unguarded, StandsBefore, NeedsOriginal, GivesOriginal, LeavesOriginal, GivesMirror, LeavesMirror, ForOriginal, NeedsPiece, GivesPiece, LeavesPiece, piece_items, piece_cost, ChecksMade}
 use Rattle.weave_core.proofs.Compose.{leads_led, quiet_then, quiet_guarded, lockstep_then, lockstep_guarded, lockstep_each, quiet_each, each_front, each_same}
 use Rattle.weave_core.proofs.PartLaws.{quiet_original, quiet_compare, quiet_visit, lockstep_original, lockstep_mirror}
 use Rattle.weave_core.proofs.PieceLaws.{AreChecks, both_checks, never_originals, for_originals, for_mirrors, needs_originals, gives_originals, originals_trail, piece_leads, cost_parts, guarded_original, parts_are}
@@ -39,7 +39,7 @@ use Rattle.weave_core.proofs.LeaveLaws.{quiet_enter, fall_law, leave_law, quiet_
 use Rattle.weave_core.proofs.KindItems.{items_then, compare_items, visits_items}
 use Rattle.weave_core.proofs.Landing.{land_behind, straight_compare, land_visits}
 use Rattle.weave_core.proofs.Prologue.{prologue_row}
-use Rattle.weave_core.specs.Weave.{Weave, start_steps, stage_steps}
+use Rattle.weave_core.specs.Weave.{Weave, most_before_start, stage_steps}
 use Rattle.weave_core.specs.WeaveLaws.{PieceAt, EntryAt, Met, Trail, Stands, GoesTo, Inside, Checked, stops, Onward, lands, is_lost, Left, Keeps, CheckedRows, Starts, Guarded}
 use Rattle.weave_core.specs.WeavePromise.{PlanOf}
 use Rattle.weave_core.specs.WeaveForms.{is_signed_at, weave_with, weave_of, ChecksLaws}
@@ -60,27 +60,27 @@ each_plus part (i ∷ is) at = ap (λ l. part i at ++ l) (each_plus part is (at 
 module _ (form : Form) where
   -- a mirror part leads on in a world of the form that has its law
   abbrev pub NeedsOther : Ins → ℕ → World → Views → Type 0
-  NeedsOther i at w v = (w.form ≡ form) × Mirrors w × Runs w i at v.shadow
+  NeedsOther i at w v = (w.form ≡ form) × Mirrors w × StandsBefore w i at v.shadow
 
   abbrev pub other_cost : Ins → ℕ
   other_cost i = form.cost - spent i
 
-  pub quiet_other : (i : Ins) (at : ℕ) → FitsPiece i → Quiet any (form.mirror i at) (NeedsOther i at) (λ w. Does w same step 0) (λ w v n z. ⊥) (other_cost i)
+  pub quiet_other : (i : Ins) (at : ℕ) → FitsPiece i → Quiet any (form.mirror i at) (NeedsOther i at) (λ w. Does w same_state step 0) (λ w v n z. ⊥) (other_cost i)
   quiet_other i at f = record {
     leads = λ w v rest s st r.
         let a1 : At w v.now (form.mirror i v.shadow.pc ++ rest) v.original v.shadow = subst (λ p. At w v.now (form.mirror i p ++ rest) v.original v.shadow) (sym r.2.here) st in
         let a2 : At w v.now (w.form.mirror i v.shadow.pc ++ rest) v.original v.shadow = subst (λ (f : Form). At w v.now (f.mirror i v.shadow.pc ++ rest) v.original v.shadow) (sym r.0) a1 in
-        subst (λ (f : Form). Leads w v (f.cost - spent i) rest (Does w same step 0 v) (λ n z. ⊥)) r.0
-        (leads_led w v 0 (w.form.cost - spent i) rest same step (r.1.row v.now v.original v.shadow i rest f a2 r.2.sourced r.2.known r.2.calm));
+        subst (λ (f : Form). Leads w v (f.cost - spent i) rest (Does w same_state step 0 v) (λ n z. ⊥)) r.0
+        (leads_led w v 0 (w.form.cost - spent i) rest same_state step (r.1.row v.now v.original v.shadow i rest f a2 r.2.sourced r.2.known r.2.calm));
   }
 
   -- the guarded originals of some instructions
   pub quiet_front :
       (is : List Ins) (at : ℕ) → AllFit is
-      → Quiet any (items_each plus (λ i at. guards (used i) ++ bare i at) is at) (NeedsEach plus NeedsOriginal GivesOriginal is at) (GivesEach plus original_cost GivesOriginal is at) (LeavesEach plus original_cost GivesOriginal LeavesOriginal is at) (cost_each original_cost is)
+      → Quiet any (items_each plus (λ i at. guards (used i) ++ unguarded i at) is at) (NeedsEach plus NeedsOriginal GivesOriginal is at) (GivesEach plus original_cost GivesOriginal is at) (LeavesEach plus original_cost GivesOriginal LeavesOriginal is at) (cost_each original_cost is)
   quiet_front is at f =
-      quiet_each plus any ForOriginal (λ i. []) (λ i at. guards (used i) ++ bare i at) NeedsOriginal GivesOriginal LeavesOriginal original_cost
-      (λ i at f. quiet_guarded any (used i) (bare i at) (λ w v. Runs w i at v.original) (λ w. Does w step same 1) (λ w v n z. ⊥) (bare_cost i) f.1 (quiet_original i at f.0)) is at (for_originals plus is at f)
+      quiet_each plus any ForOriginal (λ i. []) (λ i at. guards (used i) ++ unguarded i at) NeedsOriginal GivesOriginal LeavesOriginal original_cost
+      (λ i at f. quiet_guarded any (used i) (unguarded i at) (λ w v. StandsBefore w i at v.original) (λ w. Does w step same_state 1) (λ w v n z. ⊥) (bare_cost i) f.1 (quiet_original i at f.0)) is at (for_originals plus is at f)
 
   abbrev suits : Bool → Type 0
   suits far = any far × (any far × any far)
@@ -92,7 +92,7 @@ module _ (form : Form) where
   -- all of it
   quiet_piece :
       (checks : List Item) (first steps : ℕ) → ChecksLaws form checks first steps → (is : List Ins) (at : ℕ) → AllFit is
-      → Quiet suits (piece_items plus form.mirror checks is at) (NeedsPiece plus NeedsOther other_cost Alike is at) (GivesPiece plus other_cost (λ w. Checks w first form.round) is at) (LeavesPiece plus other_cost (λ w v n z. ⊥) is at) (piece_cost other_cost steps is)
+      → Quiet suits (piece_items plus form.mirror checks is at) (NeedsPiece plus NeedsOther other_cost Alike is at) (GivesPiece plus other_cost (λ w. ChecksMade w first form.round) is at) (LeavesPiece plus other_cost (λ w v n z. ⊥) is at) (piece_cost other_cost steps is)
   quiet_piece checks first steps laws is at f =
       quiet_then any (λ far. any far × any far) _ _ _ _ _ _ _ _ _ _ (quiet_front is at f)
       (quiet_then any any _ _ _ _ _ _ _ _ _ _ (quiet_each plus any (λ i at. FitsPiece i) (λ i. []) form.mirror NeedsOther GivesMirror LeavesMirror other_cost quiet_other is at (for_mirrors plus is at f)) laws.quiet)
@@ -119,7 +119,7 @@ pub lockstep_piece :
     (form : Form) (checks : List Item) → MirrorsFit form.far form.mirror → Lockstep (λ far. far ≡ form.far) [] checks → (is : List Ins) (at : ℕ) → AllFit is
     → Lockstep (λ far. far ≡ form.far) [] (each_part original is at ++ (each_part form.mirror is at ++ checks))
 lockstep_piece form checks m c is at h =
-    let os = lockstep_each plus any ForOriginal (λ i. []) (λ i at. guards (used i) ++ bare i at) (λ i at f. lockstep_guarded any (used i) (used i) (bare i at) refl f.1 (lockstep_original i at f.0)) is at (for_originals plus is at h) in
+    let os = lockstep_each plus any ForOriginal (λ i. []) (λ i at. guards (used i) ++ unguarded i at) (λ i at f. lockstep_guarded any (used i) (used i) (unguarded i at) refl f.1 (lockstep_original i at f.0)) is at (for_originals plus is at h) in
     let ms = lockstep_each plus (λ far. far ≡ form.far) (λ i at. FitsPiece i) (λ i. []) form.mirror (lockstep_mirror (λ far. far ≡ form.far) form.mirror (λ far e. subst (λ b. MirrorsFit b form.mirror) (sym e) m)) is at (for_mirrors plus is at h) in
     let all = lockstep_then any _ [] [] _ _ refl os (lockstep_then (λ far. far ≡ form.far) (λ far. far ≡ form.far) [] [] _ _ refl ms c) in
     subst (Lockstep (λ far. far ≡ form.far) []) (parts_are plus form.mirror checks is at (λ part. each_plus part is at)) (record { locks = λ far e. all.locks far (tt, (e, e)); lands = λ far e. all.lands far (tt, (e, e)) })
@@ -134,7 +134,7 @@ fewer_front (i ∷ is) zero l = let h = one (is_auipc i.kind) in omega (arith, h
   one false = omega arith
 fewer_front (i ∷ is) (suc n) l = let h = fewer_front is n (omega (arith, l)) in omega (arith, h)
 
--- behind the first n instructions of a run the original half has made n steps, in fewer than all original parts have, whatever stands behind them
+-- behind n instructions of a run the original half made n steps, fewer than all original parts have, whatever follows
 pub front_row :
     (w : World) (is : List Ins) (n : ℕ) (u s : State) (tail : List Item) → n < length is → AllFit is → is_run is ≡ true → HasAt w.source s.pc is
     → At w u (each_part original is s.pc ++ tail) s s → Sourced w s → NotTrapped (run s n) → GoesTo w u n (3 * n) (λ k x. Inside w u s n k x × (k < cost_each original_cost is))
@@ -144,9 +144,9 @@ front_row w is n u s tail l fit clean has a so calm =
     let v : Views = record { now = u; original = s; shadow = s; leads = λ a. false } in
     let split : is ≡ take n is ++ drop n is = sym (take-append-drop n is) in
     let count : length (take n is) ≡ n = length-take-le n is (omega (arith, l)) in
-    let f = each_front plus (λ i at. guards (used i) ++ bare i at) xs ys s.pc in
-    let all = each_same plus (λ i at. guards (used i) ++ bare i at) original guarded_original is s.pc ∙ each_plus original is s.pc in
-    let shape = ap (λ k. k ++ tail) (sym all ∙ ap (λ k. items_each plus (λ i at. guards (used i) ++ bare i at) k s.pc) split ∙ f.1) ∙ append_assoc (items_each plus (λ i at. guards (used i) ++ bare i at) xs s.pc) f.0 tail in
+    let f = each_front plus (λ i at. guards (used i) ++ unguarded i at) xs ys s.pc in
+    let all = each_same plus (λ i at. guards (used i) ++ unguarded i at) original guarded_original is s.pc ∙ each_plus original is s.pc in
+    let shape = ap (λ k. k ++ tail) (sym all ∙ ap (λ k. items_each plus (λ i at. guards (used i) ++ unguarded i at) k s.pc) split ∙ f.1) ∙ append_assoc (items_each plus (λ i at. guards (used i) ++ unguarded i at) xs s.pc) f.0 tail in
     let fits = fit_front xs ys (subst AllFit split fit) in
     let run1 = run_prefix (λ r. false) xs ys (subst (λ k. is_run k ≡ true) split clean) in
     let has1 = has_front w.source s.pc xs ys (subst (HasAt w.source s.pc) split has) in
@@ -224,11 +224,11 @@ module _ (w : World) (most : ℕ) (checks : List Item) (first steps : ℕ) (laws
     piece_law is b u s rest held p a so calm =
         let own = held_parts w u b held in
         let both = and_parts _ _ p.one in
-        let same = sym (parts_are plus w.form.mirror checks is s.pc (λ part. each_plus part is s.pc)) in
+        let same_state = sym (parts_are plus w.form.mirror checks is s.pc (λ part. each_plus part is s.pc)) in
         let few = cost_parts w.form.cost (other_cost w.form) law.enough (λ i. omega arith) is in
         let m : w.form.cost * length is ≤ w.form.cost * most = mul-le-mul_left w.form.cost (leb-true (length is) most both.1) in
-        let are : AreChecks w (Alike w.form) (λ w'. Checks w' first w.form.round) (λ w v n z. ⊥) first w.form.round = record { ready = λ v h c. (h, refl, c); checks = λ v z n c. c; never = λ v z n l. l } in
-        let g = piece_leads plus (λ a h. refl) w (NeedsOther w.form) (λ i at v r. (refl, law, r)) (other_cost w.form) (Alike w.form) (λ w'. Checks w' first w.form.round) (λ w v n z. ⊥) first w.form.round are is s.pc (suits w.form) (tt, (tt, tt)) (w.form.cost * length is) steps (piece_items plus w.form.mirror checks is s.pc) few (quiet_piece w.form checks first steps laws is s.pc p.fit) (views u s) rest own.1 refl refl p.has p.fit both.0 so calm (subst (λ l. At w u (l ++ rest) s s) same a) in
+        let are : AreChecks w (Alike w.form) (λ w'. ChecksMade w' first w.form.round) (λ w v n z. ⊥) first w.form.round = record { ready = λ v h c. (h, refl, c); checks = λ v z n c. c; never = λ v z n l. l } in
+        let g = piece_leads plus (λ a h. refl) w (NeedsOther w.form) (λ i at v r. (refl, law, r)) (other_cost w.form) (Alike w.form) (λ w'. ChecksMade w' first w.form.round) (λ w v n z. ⊥) first w.form.round are is s.pc (suits w.form) (tt, (tt, tt)) (w.form.cost * length is) steps (piece_items plus w.form.mirror checks is s.pc) few (quiet_piece w.form checks first steps laws is s.pc p.fit) (views u s) rest own.1 refl refl p.has p.fit both.0 so calm (subst (λ l. At w u (l ++ rest) s s) same_state a) in
         ⊎_elim
         (λ e.
         let c = e.1.checked in
@@ -372,7 +372,7 @@ module _ (w : World) (most : ℕ) where
 -- ---- a pass before the checks
 -- where it leaves both halves as they are, they have the laws with it
 pub checks_after :
-    (form : Form) (xs checks : List Item) (m first steps : ℕ) → Quiet any xs (λ w v. v.original ≡ v.shadow) (λ w. Does w same same 0) (λ w v n z. ⊥) m
+    (form : Form) (xs checks : List Item) (m first steps : ℕ) → Quiet any xs (λ w v. v.original ≡ v.shadow) (λ w. Does w same_state same_state 0) (λ w v n z. ⊥) m
     → Lockstep any [] xs → ChecksLaws form checks first steps → ChecksLaws form (xs ++ checks) (m + first) (m + steps)
 checks_after form xs checks m first steps quiet lock laws = record {
   quiet = record {
@@ -400,7 +400,7 @@ checks_after form xs checks m first steps quiet lock laws = record {
 pub kept_with :
     (f g : Program) (w : World) (most : ℕ) (checks : List Item) (first steps : ℕ) (blocks : List Block) → ChecksLaws w.form checks first steps
     → PlanOf f g w (weave_with w.form most checks first steps) blocks → Mirrors w
-    → KeptInStep f g w.reached w.distance (start_steps (weave_with w.form most checks first steps)) (stage_steps (weave_with w.form most checks first steps))
+    → KeptInStep f g w.reached w.distance (most_before_start (weave_with w.form most checks first steps)) (stage_steps (weave_with w.form most checks first steps))
 kept_with f g w most checks first steps blocks laws p law =
     let rows = rows_with w most checks first steps laws (begins_at blocks) law in
     in_step f g w (weave_with w.form most checks first steps) (begins_at blocks) (plan_in f g w (weave_with w.form most checks first steps) blocks p rows.rows (starts_with w most checks first steps laws (begins_at blocks) f g)) (omega arith)
@@ -435,8 +435,8 @@ form_guarded w most checks first steps = record {
       let near = w.low (v.pc + 8) i h.2.0 in
       let l = set_reg TEMPORARY c v.regs in
       let x = moved l (v.pc + 8) v in
-      let same : slice_set v.regs 30 c ≡ set_reg TEMPORARY c v.regs = sym (set_reg-pos v.regs 30 c (omega arith)) in
-      let two : run v 2 ≡ x = (constant_walk w.code v 30 c o (h.0, (h.1, tt)) (omega (arith, near)) low (omega arith) (omega (arith, long))).ends ∙ ap (λ l. moved l (v.pc + 8) v) same in
+      let same_state : slice_set v.regs 30 c ≡ set_reg TEMPORARY c v.regs = sym (set_reg-pos v.regs 30 c (omega arith)) in
+      let two : run v 2 ≡ x = (constant_walk w.code v 30 c o (h.0, (h.1, tt)) (omega (arith, near)) low (omega arith) (omega (arith, long))).ends ∙ ap (λ l. moved l (v.pc + 8) v) same_state in
       let over_x : Over w.code x = record { going = o.going; code = o.code } in
       let left : reg x SIGNATURE ≡ reg v SIGNATURE = slice_index-set_reg_other v.regs 30 c 16 (λ e. absurd (omega arith)) in
       let right : reg x TEMPORARY ≡ c = slice_index-set_reg_same v.regs 30 c (omega arith) (omega (arith, long)) in
@@ -448,13 +448,13 @@ form_guarded w most checks first steps = record {
       ap (λ s. s.outcome) all ∙ step-break y o.going (o.code (v.pc + 8 + 4) ∙ h.2.1.0);
 }
 
--- and its jumps land
+-- in a plan of a form jumps land
 pub plan_landed : PlanLanded
 plan_landed f g w most blocks entries p law known =
     subst (λ n. LandedInStep 4 f g w.reached entries (start_of w.form) n) (omega arith)
     (weave_landed f g w (weave_of w.form most) blocks entries p (form_rows w most (begins_at blocks) law).rows (form_starts w most (begins_at blocks) f g) (form_guarded w most (both w most) 0 (both_steps w most)) known)
 
--- and so they do wherever the entries stand
+-- jumps land wherever the entries stand
 pub landings_fire : LandingsFire
 landings_fire f g w leader most entries x law known =
     subst (λ n. LandedInStep 4 f g w.reached entries (start_of w.form) n) (omega arith)

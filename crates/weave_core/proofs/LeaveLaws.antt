@@ -1,4 +1,4 @@
--- Where an entry and a leave lead, the latter by the kind of its end: the laws of their passes, from which follow those of a weave.
+-- Where an entry and a leave of each kind lead: the laws of their passes, from which follow those of a weave.
 use Rattle.std.proofs.Common.{◌≡◌, ℕ, ◌+◌, ◌%◌, ◌^◌, ◌<◌, ◌≤◌, inr, ⊎_elim, Bool, true, false, List, [], ◌∷◌, ◌++◌, length, refl, sym, ap, ◌∙◌, subst, arith, append_assoc}
 use Rattle.rv_isa.specs.declared.class.Class.TheVariants as class
 use Rattle.rv_isa.proofs.RegsLaws.{slice_index-set_reg_other}
@@ -9,7 +9,7 @@ use Rattle.machine.proofs.Lemmas.{over_moved, known_at, Walk, walk_none, walk_on
 use Rattle.weave_core.specs.World.{Item, Plain, Go, Ended, World, Quiet as Calm, Twice, set_reg, State, reg, moved, stopped, Known, step, target, holds}
 use Rattle.weave_core.specs.Blocks.{IsEntryOf, Goes}
 use Rattle.weave_core.specs.Rows.{At, Sourced, Led}
-use Rattle.weave_core.specs.Pass.{Views, Leads, Quiet, Does, same}
+use Rattle.weave_core.specs.Pass.{Views, Leads, Quiet, Does, same_state}
 use Rattle.weave_core.proofs.Compose.{leads_led}
 use Rattle.weave_core.specs.WeaveLaws.{GoesTo, Onward, lands, is_lost}
 use Rattle.weave_core.specs.Leaving.{Enters, left_as, left, IsLeft, GoesFrom, Leaving, LeavesOn, Signs, swept_end, sweep_cost, Sweeps, SweptTo}
@@ -22,8 +22,8 @@ use Rattle.weave_core.proofs.Endings.{sweep_row}
 use Rattle.weave_core.proofs.Entries.{reads_front}
 
 -- ---- the entry
-pub quiet_enter : (at : ℕ) → Quiet (λ far. Unit {0}) (enter at) (λ w. Enters w at) (λ w. Does w same same 3) (λ w v n z. ⊥) 3
-quiet_enter at = record { leads = λ w v rest s st e. leads_led w v 3 3 rest same same (subst (λ t. Led w v.now 3 3 rest v.original t) e.same (row w v rest e (subst (λ p. At w v.now (enter p ++ rest) v.original v.original) (sym e.here) (subst (λ t. At w v.now (enter at ++ rest) v.original t) (sym e.same) st)))) } where
+pub quiet_enter : (at : ℕ) → Quiet (λ far. Unit {0}) (enter at) (λ w. Enters w at) (λ w. Does w same_state same_state 3) (λ w v n z. ⊥) 3
+quiet_enter at = record { leads = λ w v rest s st e. leads_led w v 3 3 rest same_state same_state (subst (λ t. Led w v.now 3 3 rest v.original t) e.same (row w v rest e (subst (λ p. At w v.now (enter p ++ rest) v.original v.original) (sym e.here) (subst (λ t. At w v.now (enter at ++ rest) v.original t) (sym e.same) st)))) } where
   row :
       (w : World) (v : Views) (rest : List Item) → Enters w at v → At w v.now (enter v.original.pc ++ rest) v.original v.original
       → Led w v.now 3 3 rest v.original v.original

@@ -11,9 +11,9 @@ use Rattle.machine.proofs.Lemmas.{known_at}
 use Rattle.weave_core.specs.World.{Item, Plain, Constant, World, IsCursor, State, reg, Known, step, target}
 use Rattle.weave_core.specs.Blocks.{IsBody, IsLowAs, FitsPiece}
 use Rattle.weave_core.specs.Rows.{At, Led, Sourced}
-use Rattle.weave_core.specs.Pass.{Views, Does, same, Leads, Quiet, Lockstep}
+use Rattle.weave_core.specs.Pass.{Views, Does, same_state, Leads, Quiet, Lockstep}
 use Rattle.weave_core.specs.KindItems.{LockItems, Straight, MirrorsFit}
-use Rattle.weave_core.specs.Parts.{any, bare, Runs, Compares, Rounds}
+use Rattle.weave_core.specs.Parts.{any, unguarded, StandsBefore, Compares, Rounds}
 use Rattle.weave_core.proofs.Rows.{led_more}
 use Rattle.weave_core.proofs.Words.{original_compute, original_auipc, original_fence, compare_row, compare_stands}
 use Rattle.weave_core.proofs.Access.{load_at, store_at, load_granted, store_granted}
@@ -36,7 +36,7 @@ module _ (w : World) where
   bare_as c u s s' i rest e b f n a so h calm = absurd b
 
   bare_row :
-      (u s s' : State) (i : Ins) (rest : List Item) → FitsPiece i → At w u (bare i s.pc ++ rest) s s' → Sourced w s → w.source s.pc ≡ Known i
+      (u s s' : State) (i : Ins) (rest : List Item) → FitsPiece i → At w u (unguarded i s.pc ++ rest) s s' → Sourced w s → w.source s.pc ≡ Known i
       → NotTrapped (step s) → Led w u 1 (bare_cost i) rest (step s) s'
   bare_row u s s' i rest f a so h calm =
       elim (is_auipc i.kind) as (λ b. is_auipc i.kind ≡ b → At w u (cond b (Constant i.rd (target i s.pc) ∷ []) (Plain i ∷ []) ++ rest) s s' → Led w u 1 (cond b 2 1) rest (step s) s') [
@@ -44,15 +44,15 @@ module _ (w : World) where
         | false ↦ λ e x. bare_as (class_of i.kind) u s s' i rest refl f.body f e x so h calm
       ] refl a
 
-pub quiet_original : (i : Ins) (at : ℕ) → FitsPiece i → Quiet any (bare i at) (λ w v. Runs w i at v.original) (λ w. Does w step same 1) (λ w v n z. ⊥) (bare_cost i)
+pub quiet_original : (i : Ins) (at : ℕ) → FitsPiece i → Quiet any (unguarded i at) (λ w v. StandsBefore w i at v.original) (λ w. Does w step same_state 1) (λ w v n z. ⊥) (bare_cost i)
 quiet_original i at f = record {
-  leads = λ w v rest s st r. leads_led w v 1 (bare_cost i) rest step same (bare_row w v.now v.original v.shadow i rest f (subst (λ p. At w v.now (bare i p ++ rest) v.original v.shadow) (sym r.here) st) r.sourced r.known r.calm);
+  leads = λ w v rest s st r. leads_led w v 1 (bare_cost i) rest step same_state (bare_row w v.now v.original v.shadow i rest f (subst (λ p. At w v.now (unguarded i p ++ rest) v.original v.shadow) (sym r.here) st) r.sourced r.known r.calm);
 }
 
 -- ---- the mirror part
-pub quiet_mirrored : (i : Ins) (at : ℕ) → FitsPiece i → Quiet any (mirrored i at) (λ w v. Runs w i at v.shadow) (λ w. Does w same step 0) (λ w v n z. ⊥) 2
+pub quiet_mirrored : (i : Ins) (at : ℕ) → FitsPiece i → Quiet any (mirrored i at) (λ w v. StandsBefore w i at v.shadow) (λ w. Does w same_state step 0) (λ w v n z. ⊥) 2
 quiet_mirrored i at f = record {
-  leads = λ w v rest s st r. leads_led w v 0 2 rest same step (mirrored_row w v.now v.original v.shadow i rest f (subst (λ p. At w v.now (mirrored i p ++ rest) v.original v.shadow) (sym r.here) st) r.sourced r.known r.calm);
+  leads = λ w v rest s st r. leads_led w v 0 2 rest same_state step (mirrored_row w v.now v.original v.shadow i rest f (subst (λ p. At w v.now (mirrored i p ++ rest) v.original v.shadow) (sym r.here) st) r.sourced r.known r.calm);
 }
 
 -- ---- the comparison
@@ -60,7 +60,7 @@ pub quiet_compare : Quiet any compare (λ w v. v.original ≡ v.shadow) Compares
 quiet_compare = record {
   leads = λ w v rest s st e.
       let a = subst (λ t. At w v.now (compare ++ rest) v.original t) (sym e) st in
-      let x = leads_led w v ORIGINALS ORIGINALS rest same same (subst (λ t. Led w v.now ORIGINALS ORIGINALS rest v.original t) e (compare_row w v.now rest v.original a)) in
+      let x = leads_led w v ORIGINALS ORIGINALS rest same_state same_state (subst (λ t. Led w v.now ORIGINALS ORIGINALS rest v.original t) e (compare_row w v.now rest v.original a)) in
       record { steps = x.steps; to = x.to; within = x.within; walk = x.walk; ends = ⊎_elim (λ g. inl (g.0, (g.1, compare_stands w v.now.pc rest st.reads))) (λ l. absurd l) x.ends };
 }
 
@@ -93,13 +93,13 @@ straight_as far class.Store i e b = straight_store far i [] e (straight_none far
 straight_as far class.Fence i e b = straight_one far i class.Fence [] e (λ c a. tt) (straight_none far)
 straight_as far c i e b = absurd b
 
-pub straight_bare : (far : Bool) (i : Ins) (at : ℕ) → FitsPiece i → Straight far (bare i at)
+pub straight_bare : (far : Bool) (i : Ins) (at : ℕ) → FitsPiece i → Straight far (unguarded i at)
 straight_bare far i at f = elim (is_auipc i.kind) as (λ b. Straight far (cond b (Constant i.rd (target i at) ∷ []) (Plain i ∷ []))) [ true ↦ straight_constant far i.rd (target i at) [] (straight_none far) | false ↦ straight_as far (class_of i.kind) i refl f.body ]
 
-pub lockstep_original : (i : Ins) (at : ℕ) → FitsPiece i → Lockstep any (used i) (bare i at)
+pub lockstep_original : (i : Ins) (at : ℕ) → FitsPiece i → Lockstep any (used i) (unguarded i at)
 lockstep_original i at f = record {
   locks = λ far s. subst (LockItems far) (sym (guarded_original i at)) (original_items far i at f);
-  lands = λ far s. straight_lands far (bare i at) (straight_bare far i at f);
+  lands = λ far s. straight_lands far (unguarded i at) (straight_bare far i at f);
 }
 
 -- a mirror part that fits

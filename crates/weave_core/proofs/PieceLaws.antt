@@ -16,9 +16,9 @@ use Rattle.weave_core.specs.Blocks.{IsLowAs, FitsPiece, AllFit}
 use Rattle.weave_core.specs.Kinds.{originals}
 use Rattle.weave_core.specs.Lock.{ComparesFrom}
 use Rattle.weave_core.specs.WeaveLaws.{Visits, Met, Trail}
-use Rattle.weave_core.specs.Pass.{Views, Stands, Leads, Quiet, AllLow, AllSame}
+use Rattle.weave_core.specs.Pass.{Views, StandsAt, Leads, Quiet, AllLow, AllSame}
 use Rattle.weave_core.specs.Each.{items_each, ForEach, NeedsEach, GivesEach, LeavesEach}
-use Rattle.weave_core.specs.Parts.{bare, Runs, none, NeedsOriginal, GivesOriginal, LeavesOriginal, GivesMirror, LeavesMirror, NeedsChecks, GivesChecks, LeavesChecks, ForOriginal, NeedsPiece, GivesPiece, LeavesPiece, piece_items, piece_cost, Checks, Pieced}
+use Rattle.weave_core.specs.Parts.{unguarded, StandsBefore, none, NeedsOriginal, GivesOriginal, LeavesOriginal, GivesMirror, LeavesMirror, NeedsChecks, GivesChecks, LeavesChecks, ForOriginal, NeedsPiece, GivesPiece, LeavesPiece, piece_items, piece_cost, ChecksMade, Pieced}
 use Rattle.weave_core.proofs.Body.{auipc_is, spent_le}
 use Rattle.weave_core.proofs.Source.{body_step, not_trapped_front, not_trapped_le, source_run, EqualBut, equal_on, UsesUnwritten, clean_uses, Sourced}
 use Rattle.weave_core.proofs.Trails.{holds_of, met_going, met_same, trail_later, trail_on, trail_one}
@@ -41,10 +41,10 @@ pub never_mirrors : (next : ℕ → ℕ) (cost : Ins → ℕ) (is : List Ins) (a
 never_mirrors next cost is at w v z n l = never_each next cost GivesMirror LeavesMirror (λ i at w v n z l. l) is at w v z n l
 
 -- ---- the checks of a piece
--- what a pass behind the parts needs, gives and leaves: it needs no more than that both halves are equal and the cursor is at a word, and does not leave
+-- a pass behind the parts needs at most equal halves and the cursor at a word, gives the checks, and never leaves
 pub record AreChecks (w : World) (needs : World → Views → Type 0) (gives leaves : World → Views → ℕ → Views → Type 0) (first round : ℕ) : Type 0 where
   pub ready : (v : Views) → v.original ≡ v.shadow → IsCursor w.form.spans (reg v.now CURSOR) → needs w v
-  pub checks : (v z : Views) (n : ℕ) → gives w v n z → Checks w first round v n z
+  pub checks : (v z : Views) (n : ℕ) → gives w v n z → ChecksMade w first round v n z
   pub never : (v z : Views) (n : ℕ) → leaves w v n z → ⊥
 
 -- the comparison, and the visits behind it
@@ -119,8 +119,8 @@ module _ (next : ℕ → ℕ) (plus : (a : ℕ) → a + 8 ≤ 2 ^ 63 → next a 
       let calm1 = not_trapped_front (length is) (step v.original) calm in
       let m = body_step w v.original i f.0 so h.0 calm1 in
       let clean = and_parts (is_clean ws i) (is_run_after (and_written i ws) is) c in
-      let runs : Runs w i at v.original = record { sourced = so; known = h.0; here = here; calm = calm1 } in (
-        (same_as (class_of i.kind) ws i v.original v.shadow (clean_uses (class_of i.kind) ws i clean.0) st, λ n y d. subst (Runs w i at) (sym d.original) runs),
+      let runs : StandsBefore w i at v.original = record { sourced = so; known = h.0; here = here; calm = calm1 } in (
+        (same_as (class_of i.kind) ws i v.original v.shadow (clean_uses (class_of i.kind) ws i clean.0) st, λ n y d. subst (StandsBefore w i at) (sym d.original) runs),
         λ n y d.
             let eo : y.original ≡ step v.original = d.last.original ∙ ap step d.first.original in
             let es : y.shadow ≡ v.shadow = d.last.shadow ∙ d.first.shadow in
@@ -174,7 +174,7 @@ module _ (next : ℕ → ℕ) (plus : (a : ℕ) → a + 8 ≤ 2 ^ 63 → next a 
 
   -- ---- the mirrors
   pub needs_mirrors :
-      (needs : Ins → ℕ → World → Views → Type 0) → ((i : Ins) (at : ℕ) (v : Views) → Runs w i at v.shadow → needs i at w v)
+      (needs : Ins → ℕ → World → Views → Type 0) → ((i : Ins) (at : ℕ) (v : Views) → StandsBefore w i at v.shadow → needs i at w v)
       → (is : List Ins) (at : ℕ) (v : Views) → AllFit is → Sourced w v.shadow → v.shadow.pc ≡ at → HasAt w.source v.shadow.pc is
       → NotTrapped (run v.shadow (length is)) → NeedsEach next needs GivesMirror is at w v
   unfolding run
@@ -208,7 +208,7 @@ module _ (next : ℕ → ℕ) (plus : (a : ℕ) → a + 8 ≤ 2 ^ 63 → next a 
       }
 
   -- ---- the piece
-  module _ (needs : Ins → ℕ → World → Views → Type 0) (have : (i : Ins) (at : ℕ) (v : Views) → Runs w i at v.shadow → needs i at w v) (cost : Ins → ℕ) where
+  module _ (needs : Ins → ℕ → World → Views → Type 0) (have : (i : Ins) (at : ℕ) (v : Views) → StandsBefore w i at v.shadow → needs i at w v) (cost : Ins → ℕ) where
     module _ (nc : World → Views → Type 0) (gc lc : World → Views → ℕ → Views → Type 0) (first round : ℕ) (are : AreChecks w nc gc lc first round) (is : List Ins) (at : ℕ) where
       needs_piece :
           (v : Views) → IsCursor w.form.spans (reg v.now CURSOR) → v.original ≡ v.shadow → v.original.pc ≡ at → HasAt w.source at is → AllFit is → is_run is ≡ true → Sourced w v.original
@@ -258,7 +258,7 @@ module _ (next : ℕ → ℕ) (plus : (a : ℕ) → a + 8 ≤ 2 ^ 63 → next a 
           (suits : Bool → Type 0) → suits w.form.far → (most steps : ℕ) (items : List Item) → cost_each original_cost is + cost_each cost is ≤ most
           → Quiet suits items (NeedsPiece next needs cost nc is at) (GivesPiece next cost gc is at) (LeavesPiece next cost lc is at) (piece_cost cost steps is)
           → (v : Views) (rest : List Item) → IsCursor w.form.spans (reg v.now CURSOR) → v.original ≡ v.shadow → v.original.pc ≡ at → HasAt w.source at is → AllFit is → is_run is ≡ true
-          → Sourced w v.original → NotTrapped (run v.original (length is)) → Stands w v (items ++ rest)
+          → Sourced w v.original → NotTrapped (run v.original (length is)) → StandsAt w v (items ++ rest)
           → Leads w v (most + steps) rest (Pieced w (most + first) round is v.original v) none
       piece_leads suits here most steps items few q v rest cur e pc has fit clean so calm st =
           let x = q.leads w v rest here st (needs_piece v cur e pc has fit clean so calm) in
@@ -273,7 +273,7 @@ module _ (next : ℕ → ℕ) (plus : (a : ℕ) → a + 8 ≤ 2 ^ 63 → next a 
             goes k l = (source_run w is k v.original l fit so (subst (λ a. HasAt w.source a is) (sym pc) has) (not_trapped_le v.original k (length is) l calm)).sourced.over.going
 
             last :
-                (x : Leads w v (piece_cost cost steps is) rest (GivesPiece next cost gc is at w v) (LeavesPiece next cost lc is at w v)) → Stands w x.to rest → x.to.original ≡ run v.original (length is)
+                (x : Leads w v (piece_cost cost steps is) rest (GivesPiece next cost gc is at w v) (LeavesPiece next cost lc is at w v)) → StandsAt w x.to rest → x.to.original ≡ run v.original (length is)
                 → Met w (run v.now x.steps) (run v.original (length is))
             last x a e = met_same w (run v.now x.steps) x.to.now (run v.original (length is)) x.to.original x.walk.ends (sym e) (met_going w x.to.now x.to.original (holds_of w x.to.now x.to.original x.to.shadow a.halved) a.over.going (ap (λ s. s.outcome) e ∙ goes (length is) (omega arith)))
 
@@ -323,7 +323,7 @@ original_class class.Load i at = ap (λ l. l ++ (Plain i ∷ [])) (append-nil (g
 original_class class.Store i at = two_guards (i.rs2 == i.rs1) i.rs1 i.rs2 (Plain i ∷ [])
 original_class c i at = refl
 
-pub guarded_original : (i : Ins) (at : ℕ) → guards (used i) ++ bare i at ≡ original i at
+pub guarded_original : (i : Ins) (at : ℕ) → guards (used i) ++ unguarded i at ≡ original i at
 guarded_original i at =
     elim (is_auipc i.kind) as (λ b. is_auipc i.kind ≡ b → guards (used i) ++ cond b (Constant i.rd (target i at) ∷ []) (Plain i ∷ []) ≡ cond b (Constant i.rd (target i at) ∷ []) (original_as (class_of i.kind) i at)) [
       | true ↦ λ e. ap (λ c. guards (used_as c i) ++ (Constant i.rd (target i at) ∷ [])) (ap class_of (auipc_is i.kind e))
@@ -336,5 +336,5 @@ pub parts_are :
     → ((part : Ins → ℕ → List Item) → items_each next part is at ≡ each_part part is at)
     → piece_items next mirror checks is at ≡ each_part original is at ++ (each_part mirror is at ++ checks)
 parts_are next mirror checks is at each =
-    let a = each_same next (λ i at. guards (used i) ++ bare i at) original guarded_original is at ∙ each original in
+    let a = each_same next (λ i at. guards (used i) ++ unguarded i at) original guarded_original is at ∙ each original in
     ap (λ l. l ++ (items_each next mirror is at ++ checks)) a ∙ ap (λ l. each_part original is at ++ (l ++ checks)) (each mirror)

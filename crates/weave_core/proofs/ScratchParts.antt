@@ -14,7 +14,7 @@ use Rattle.weave_core.proofs.KindWords.{scratch_compute, scratch_load, scratch_s
 use Rattle.weave_core.proofs.KindItems.{pair_scratch, low_or_high, items_none, items_one, items_constant}
 use Rattle.weave_core.proofs.Landing.{straight_none, straight_compute, straight_load, straight_store, straight_constant}
 
--- such a word, which does not jump: it computes, loads with a base from x16 on, or stores
+-- a word on x0 and x14 to x31 alone: it computes, loads with a base from x16 on, or stores
 pub data ScratchWord (i : Ins) : Type 0 where
   word_computes : class_of i.kind ≡ class.Compute → Scratch i.rs1 → Scratch i.rs2 → ScratchWord i
   word_loads : class_of i.kind ≡ class.Load → 16 ≤ i.rs1 → (i.rd ≡ TEMPORARY → ⊥) → ScratchWord i
@@ -41,7 +41,7 @@ scratch_items far (Plain i ∷ is) h = items_one far i is (word h.0) (scratch_it
 scratch_items far (Constant r v ∷ is) h = items_constant far r v is (low_or_high r) (scratch_items far is h)
 scratch_items far (Go t ∷ is) h = absurd h
 
--- and do not jump
+-- scratch words do not jump
 pub scratch_straight : (far : Bool) (is : List Item) → AllScratchWords is → Straight far is
 scratch_straight far [] h = straight_none far
 scratch_straight far (Mark m ∷ is) h = absurd h

@@ -1,4 +1,4 @@
--- A store in both halves, behind the guards of its address and of its value: what it does, and that its words are of the kinds.
+-- A store in both halves, behind guards of its address and value: what it does, and that its words are of the kinds.
 use Rattle.std.proofs.Common.{◌≡◌, ℕ, zero, suc, ◌+◌, ◌%◌, ◌^◌, ◌≤◌, inl, inr, Bool, true, false, cond, List, [], ◌∷◌, ◌++◌, refl, sym, ap, ◌∙◌, subst, arith, append_assoc}
 use Rattle.std.proofs.lemmas.Bool.{eqb-false}
 use Rattle.std.specs.Prelude.{◌==◌, ◌||◌, pos, slice_index}

@@ -1,4 +1,4 @@
--- The entry and the leave of a block, as passes: what a leave is for, what it needs, and where it leads, a case for each kind of end.
+-- The entry and the leave of a block, as passes: what a leave is for, needs, and leads to, by the kind of end.
 use Rattle.std.specs.Prelude.{◌≡◌, ℕ, ◌+◌, ◌*◌, ◌%◌, ◌^◌, ◌<◌, ◌≤◌, Bool, true, false, List, [], ◌∷◌, ◌++◌, length, pos}
 use Rattle.qed_model.specs.declared.steps.TheConstants.{INSTRUCTION_STEPS}
 use Rattle.rv_isa.specs.Ins.{nop}
@@ -11,7 +11,7 @@ use Rattle.weave_core.specs.World.{Item, Plain, Ended, World, Twice, State, reg,
 use Rattle.weave_core.specs.Rows.{Sourced}
 use Rattle.weave_core.specs.Blocks.{IsEntryOf, Goes, Leaves}
 use Rattle.weave_core.specs.Pass.{Views}
-use Rattle.weave_core.specs.WeaveLaws.{Swept, Ends, Onward}
+use Rattle.weave_core.specs.WeaveLaws.{Swept, BothEnded, Onward}
 
 -- ---- the entry
 -- both halves are those of one state of the input, whose pc has its entry here, and the signature is that pc
@@ -22,11 +22,11 @@ pub record Enters (w : World) (at : ℕ) (v : Views) : Type 0 where
   pub low : at < 2 ^ 64
 
 -- ---- the items of a leave
--- the form of the code with jumps of one or of two words, of which the leave looks at no more
+-- the form of the code with jumps of one or of two words; the leave looks at no more of it
 abbrev pub leave_form : Bool → Form
 leave_form far = record { spans = []; round = 0; far = far; sweep = false; mirror = mirrored; cost = INSTRUCTION_STEPS }
 
--- the items by the class of the end; what computes is no end, and the block falls to `next`
+-- the items by the class of the end; a computing class does not end, and the block falls to `next`
 abbrev pub left_as : Class → ℕ → Bool → Ins → ℕ → List Item
 left_as class.Compute next far i at = go_on next
 left_as c next far i at = leave_as (leave_form far) c i at
@@ -71,10 +71,10 @@ ended_as _ s = step s
 abbrev pub Signs : State → ℕ → Type 0
 Signs u a = reg u SIGNATURE ≡ a
 
--- an ECALL ends; a fall leads to the entry where the input is, if there is code; so does any other end, in at least one step, to where
--- the input is behind it
+-- an ECALL ends; a fall leads to the entry where the input is, if there is code; so does any other end, in at least one
+-- step, to where the input is behind it
 abbrev pub LeftAs : Class → World → Views → ℕ → Views → Type 0
-LeftAs class.End w v n z = Ends w (step v.original) z.now × Twice w z.now v.original v.original × (1 ≤ n)
+LeftAs class.End w v n z = BothEnded w (step v.original) z.now × Twice w z.now v.original v.original × (1 ≤ n)
 LeftAs class.Compute w v n z = Onward w v.leads Signs v.original z.now
 LeftAs _ w v n z = Onward w v.leads Signs (step v.original) z.now × (1 ≤ n)
 
@@ -102,8 +102,8 @@ pub record Sweeps (w : World) (spans : List (ℕ × ℕ)) (v : Views) : Type 0 w
   pub same : v.original ≡ v.shadow
   pub spans_are : w.form.spans ≡ spans
 
--- n steps from v on the test has ended, with the same memory and originals; on the way each data word was visited by the sweep, and
--- then all registers were compared
+-- n steps from v on the test has ended, with the same memory and originals; on the way each data word was visited by
+-- the sweep, and then all registers were compared
 pub record SweptTo (w : World) (spans : List (ℕ × ℕ)) (v : Views) (n : ℕ) (z : Views) : Type 0 where
   pub ended : z.now.outcome ≡ Ended
   pub original : z.original ≡ v.original

@@ -7,8 +7,8 @@ use Rattle.weave_core.specs.Rows.{At}
 use Rattle.weave_core.specs.KindItems.{LockItems, LandItems}
 
 -- ---- views
--- a state of the output, the states of the input of which its original and its duplicate half have the values, and which addresses of
--- the input have an entry
+-- a state of the output, the states of the input whose values its original and its duplicate half have, and which
+-- addresses of the input have an entry
 pub record Views : Type 0 where
   pub now : State
   pub original : State
@@ -16,11 +16,11 @@ pub record Views : Type 0 where
   pub leads : ℕ → Bool
 
 -- the items stand where the output goes on, and both halves are those of the views
-abbrev pub Stands : World → Views → List Item → Type 0
-Stands w v items = At w v.now items v.original v.shadow
+abbrev pub StandsAt : World → Views → List Item → Type 0
+StandsAt w v items = At w v.now items v.original v.shadow
 
--- ---- what a pass does: from views, in so many steps, to views
--- one after another, the first in at most so many steps, in which v runs to the middle
+-- ---- what a pass does: from views, in some steps, to views
+-- one after another, the first in at most `most` steps, in which v runs to the middle
 pub record Chain (v : Views) (most : ℕ) (gives : ℕ → Views → Type 0) (next : Views → ℕ → Views → Type 0) (n : ℕ) (z : Views) : Type 0 where
   pub some : ℕ
   pub more : ℕ
@@ -35,7 +35,7 @@ pub record Chain (v : Views) (most : ℕ) (gives : ℕ → Views → Type 0) (ne
 abbrev pub NeedsBoth : (Views → Type 0) → (Views → ℕ → Views → Type 0) → (Views → Type 0) → Views → Type 0
 NeedsBoth needs gives next v = needs v × ((n : ℕ) (y : Views) → gives v n y → next y)
 
--- each half has one step of the input more or none, in `least` steps, the output holds both, and the cursor, the signature and the entries stay
+-- f and g step the halves, in at least `least` steps; the output holds both; cursor, signature and entries stay
 pub record Does (w : World) (f g : State → State) (least : ℕ) (v : Views) (n : ℕ) (z : Views) : Type 0 where
   pub original : z.original ≡ f v.original
   pub shadow : z.shadow ≡ g v.shadow
@@ -46,26 +46,28 @@ pub record Does (w : World) (f g : State → State) (least : ℕ) (v : Views) (n
   pub sign : reg z.now SIGNATURE ≡ reg v.now SIGNATURE
   pub leads : z.leads ≡ v.leads
 
--- the same state
-abbrev pub same : State → State
-same s = s
+-- the state itself
+abbrev pub same_state : State → State
+same_state s = s
 
 -- ---- Quiet
--- in at most so many steps, of which each is quiet: to behind the items, as `gives` says, or elsewhere, as `leaves` says
+-- in at most `most` quiet steps: to behind the items, as `gives` says, or elsewhere, as `leaves` says
 pub record Leads (w : World) (v : Views) (most : ℕ) (rest : List Item) (gives leaves : ℕ → Views → Type 0) : Type 0 where
   pub steps : ℕ
   pub to : Views
   pub within : steps ≤ most
   pub walk : Walk (Calm w) v.now steps to.now
-  pub ends : (Stands w to rest × gives steps to) ⊎ leaves steps to
+  pub ends : (StandsAt w to rest × gives steps to) ⊎ leaves steps to
 
 -- in each world that suits, from where the items stand and what is needed holds
-pub record Quiet (suits : Bool → Type 0) (items : List Item) (needs : World → Views → Type 0) (gives leaves : World → Views → ℕ → Views → Type 0) (most : ℕ) : Type 0 where
-  pub leads : (w : World) (v : Views) (rest : List Item) → suits w.form.far → Stands w v (items ++ rest) → needs w v → Leads w v most rest (gives w v) (leaves w v)
+pub record Quiet (suits : Bool → Type 0) (items : List Item) (needs : World → Views → Type 0)
+    (gives leaves : World → Views → ℕ → Views → Type 0) (most : ℕ) : Type 0 where
+  pub leads : (w : World) (v : Views) (rest : List Item) → suits w.form.far → StandsAt w v (items ++ rest) → needs w v
+      → Leads w v most rest (gives w v) (leaves w v)
 
 -- ---- Lockstep
--- behind the comparisons of some registers with their pairs the words are of the kinds of woven words, with a guard just before
--- each use, and no register is closed at the first of them; what jumps leads to where no register is closed
+-- behind comparisons of some registers with their pairs the words are of the woven kinds, with a guard just before each
+-- use. No register is closed at the first word, nor where a jump leads
 pub record Lockstep (suits : Bool → Type 0) (uses : List ℕ) (items : List Item) : Type 0 where
   pub locks : (far : Bool) → suits far → LockItems far (guards uses ++ items)
   pub lands : (far : Bool) → suits far → LandItems far items

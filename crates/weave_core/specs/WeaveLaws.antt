@@ -6,7 +6,8 @@ use Rattle.qed_model.specs.Promise.Kept.{NotTrapped, IsSteady}
 use Rattle.qed_model.specs.Promise.Changed.{IsDataWord}
 use Rattle.qed_model.specs.Weave.Halves.{Flagged}
 use Rattle.qed_model.specs.Weave.Sequences.{Reads, End, Falls, Stops, Block, body_length, Ins, ORIGINALS, LAST_ORIGINAL, CURSOR, SIGNATURE}
-use Rattle.weave_core.specs.World.{Item, Going, Ended, Fired, World, Quiet, Twice, IsCursor, words_on, get, byte_at, State, reg, Known, HasAt, run, Program, start, zeros, AreStartRegs}
+use Rattle.weave_core.specs.World.{Item, Going, Ended, Fired, World, Quiet, Twice, IsCursor, words_on, get, byte_at, State, reg, Known, HasAt, run, Program}
+use Rattle.weave_core.specs.World.{start, zeros, AreStartRegs}
 use Rattle.weave_core.specs.Blocks.{AllFit, Full, EndStands, IsEntryOf}
 use Rattle.weave_core.specs.Rows.{At, Sourced}
 use Rattle.weave_core.specs.Describes.{Describes}
@@ -28,7 +29,7 @@ abbrev pub PiecesAt : World → Weave → (ℕ → Bool) → List (List Ins) →
 PiecesAt w v leader [] e at = EndStands w leader e at
 PiecesAt w v leader (p ∷ ps) e at = PieceAt w v at p × PiecesAt w v leader ps e (at + 4 * length p)
 
--- a block of the input: its pieces, of which there is one at least, and its end
+-- a block of the input: its pieces, at least one, and its end
 pub record BlockOf (w : World) (v : Weave) (leader : ℕ → Bool) (b : Block) : Type 0 where
   pub low : b.start < 2 ^ 64
   pub pieces : PiecesAt w v leader b.body b.end b.start
@@ -60,7 +61,7 @@ pub record Met (w : World) (u s : State) : Type 0 where
   pub holds : Holds w u s
   pub ends : (u.outcome ≡ Ended) ↔ (s.outcome ≡ Ended)
 
--- from u on the output comes to the input's states from s on in their order: to the one after n steps when it has made m itself
+-- from u on the output comes to the input's states from s on in order: to the one after n steps, when it has made m
 abbrev pub Trail : World → State → State → ℕ → ℕ → Type 0
 Trail w u s zero m = Met w (run u m) s
 Trail w u s (suc n) m = (k : ℕ) × (k < m) × Trail w u s n k × Met w (run u m) (run s (suc n))
@@ -77,7 +78,7 @@ pub record Stands (w : World) (leader : ℕ → Bool) (u s : State) : Type 0 whe
   pub leads : leader s.pc ≡ true
 
 -- ---- where the sequences lead
--- a quiet walk of so many steps to a state with a property
+-- a quiet walk of `least` to `most` steps to a state with a property
 pub record GoesTo (w : World) (u : State) (least most : ℕ) (Is : ℕ → State → Type 0) : Type 0 where
   pub steps : ℕ
   pub to : State
@@ -91,14 +92,14 @@ pub record Inside (w : World) (u s : State) (n k : ℕ) (to : State) : Type 0 wh
   pub going : to.outcome ≡ Going
   pub trail : Trail w u s n k
 
--- a visit of the word x begins within so many steps
+-- a visit of the word x begins in fewer than `steps` steps
 pub record Visits (w : World) (u : State) (steps x : ℕ) : Type 0 where
   pub at : ℕ
   pub before : at < steps
   pub first : w.code (run u at).pc ≡ Known first_load
   pub cursor : reg (run u at) CURSOR ≡ x
 
--- of n steps from u on: after at most `first` of them stands the comparison of all registers, and the words of a round are visited
+-- of n steps from u on: after at most `first` all registers are compared, and the words of a round are visited
 pub record Checked (w : World) (first round : ℕ) (u : State) (n : ℕ) (to : State) : Type 0 where
   pub compare : ℕ
   pub soon : compare ≤ first
@@ -107,7 +108,7 @@ pub record Checked (w : World) (first round : ℕ) (u : State) (n : ℕ) (to : S
   pub cursor : reg to CURSOR ≡ words_on w.form.spans round (reg u CURSOR)
   pub visits : (j : ℕ) → j < round → 1 ≤ length w.form.spans → Visits w u n (words_on w.form.spans j (reg u CURSOR))
 
--- the test ends n steps from u on: each data word is visited in the first of them, then all registers are compared, and then it ends
+-- the test ends n steps from u on: `first` of them visit each data word, then all registers are compared, then it ends
 pub record Swept (w : World) (first : ℕ) (u : State) (n : ℕ) : Type 0 where
   pub exact : n ≡ first + 14
   pub visits : (x : ℕ) → IsDataWord w.form.spans x → Visits w u first x
@@ -120,12 +121,12 @@ stops (Stops i) = 1
 
 -- ---- behind a leave, where the input is in t
 -- the test has ended, with the input's values in both halves
-pub record Ends (w : World) (t x : State) : Type 0 where
+pub record BothEnded (w : World) (t x : State) : Type 0 where
   pub ended : x.outcome ≡ Ended
   pub halved : Twice w x t t
   pub input : t.outcome ≡ Ended
 
--- at an entry, where a property holds with its input address, or where the input goes no further, since there is no code
+-- at an entry, if a property holds with its input address; or where the input goes no further for lack of code
 pub data Onward (w : World) (leader : ℕ → Bool) (held : State → ℕ → Type 0) (t x : State) : Type 0 where
   lands : Stands w leader x t → held x t.pc → Sourced w t → Onward w leader held t x
   is_lost : x.outcome ≡ Going → Twice w x t t → Sourced w t → ((i : Ins) → w.source t.pc ≡ Known i → ⊥) → Onward w leader held t x
@@ -133,7 +134,7 @@ pub data Onward (w : World) (leader : ℕ → Bool) (held : State → ℕ → Ty
 -- either
 abbrev pub Left : World → Weave → (ℕ → Bool) → State → State → ℕ → Type 0
 Left w v leader u t least =
-    GoesTo w u 1 (v.leave_steps + v.end_steps) (λ n x. Ends w t x) ⊎ GoesTo w u least v.leave_steps (λ n x. Onward w leader (λ y a. v.held w y a ≡ true) t x)
+    GoesTo w u 1 (v.leave_steps + v.end_steps) (λ n x. BothEnded w t x) ⊎ GoesTo w u least v.leave_steps (λ n x. Onward w leader (λ y a. v.held w y a ≡ true) t x)
 
 -- ---- the laws of the rows: where each sequence leads
 pub record Rows (w : World) (v : Weave) (leader : ℕ → Bool) : Type 0 where
@@ -142,16 +143,21 @@ pub record Rows (w : World) (v : Weave) (leader : ℕ → Bool) : Type 0 where
   -- an entry that reads as the words of a block is an address on the grain
   pub known : (a : ℕ) → EntryAt w v leader a → IsEntryOf w a
   pub enter :
-      (u s : State) (rest : List Item) → Stands w leader u s → v.held w u s.pc ≡ true → s.pc < 2 ^ 64 → Reads w.form.far w.code w.entry u.pc (v.code.enter s.pc ++ rest)
+      (u s : State) (rest : List Item) → Stands w leader u s → v.held w u s.pc ≡ true → s.pc < 2 ^ 64
+      → Reads w.form.far w.code w.entry u.pc (v.code.enter s.pc ++ rest)
       → GoesTo w u 0 v.enter_steps (λ n x. At w x rest s s × (v.held w x s.pc ≡ true))
   pub inside :
       (is : List Ins) (n : ℕ) (u s : State) (rest : List Item) → n < length is → PieceAt w v s.pc is → At w u (v.code.piece is s.pc ++ rest) s s
       → Sourced w s → NotTrapped (run s n) → GoesTo w u n v.piece_steps (λ k x. Inside w u s n k x × (k < v.piece_steps))
   pub piece :
-      (is : List Ins) (b : ℕ) (u s : State) (rest : List Item) → v.held w u b ≡ true → PieceAt w v s.pc is → At w u (v.code.piece is s.pc ++ rest) s s → Sourced w s
-      → NotTrapped (run s (length is)) → GoesTo w u (length is) v.piece_steps (λ n x. At w x rest (run s (length is)) (run s (length is)) × (v.held w x b ≡ true) × Trail w u s (length is) n)
+      (is : List Ins) (b : ℕ) (u s : State) (rest : List Item) → v.held w u b ≡ true → PieceAt w v s.pc is
+      → At w u (v.code.piece is s.pc ++ rest) s s → Sourced w s
+      → NotTrapped (run s (length is))
+      → GoesTo w u (length is) v.piece_steps
+      (λ n x. At w x rest (run s (length is)) (run s (length is)) × (v.held w x b ≡ true) × Trail w u s (length is) n)
   pub leave :
-      ((a : ℕ) → leader a ≡ true → IsEntryOf w a) → (e : End) (b : ℕ) (u s : State) → v.held w u b ≡ true → v.ends_at e b s.pc ≡ true → At w u (v.code.leave e s.pc) s s
+      ((a : ℕ) → leader a ≡ true → IsEntryOf w a) → (e : End) (b : ℕ) (u s : State) → v.held w u b ≡ true
+      → v.ends_at e b s.pc ≡ true → At w u (v.code.leave e s.pc) s s
       → Sourced w s → EndStands w leader e s.pc → IsSteady w.reached s (stops e) → Left w v leader u (run s (stops e)) (stops e)
 
 -- ---- the laws of the checks: what is seen on the way there
@@ -195,7 +201,7 @@ pub record Guarded (w : World) (v : Weave) (most : ℕ) : Type 0 where
       (u : State) (a : ℕ) (rest : List Item) → a < 2 ^ 64 → Reads w.form.far w.code w.entry u.pc (v.code.enter a ++ rest) → Over w.code u
       → length u.regs ≡ 32 → (reg u SIGNATURE ≡ a → ⊥) → (run u most).outcome ≡ Fired
 
--- ---- the laws of the words: each is of a kind that is woven, and each branch and jump leads to no register that is closed
+-- ---- the laws of the words: each is of a woven kind, and no branch or jump leads to a closed register
 pub record Words (far : Bool) (v : Weave) : Type 0 where
   pub first_locks : (d a : ℕ) → LockItems far (v.code.first d a)
   pub first_lands : (d a : ℕ) → LandItems far (v.code.first d a)

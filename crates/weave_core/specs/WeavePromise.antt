@@ -12,7 +12,7 @@ use Rattle.qed_model.specs.Weave.Sequences.{Reads, Block, Ins}
 use Rattle.tests.specs.Admission.DataRanges.{word_count}
 use Rattle.weave_core.specs.World.{World, Illegal, ins, Known, Program}
 use Rattle.weave_core.specs.Describes.{Describes}
-use Rattle.weave_core.specs.Weave.{Weave, start_steps, stage_steps}
+use Rattle.weave_core.specs.Weave.{Weave, most_before_start, stage_steps}
 use Rattle.qed_model.specs.Weave.Code.{Sequences, code_of, entries_of}
 use Rattle.weave_core.specs.WeaveLaws.{BlockOf, Rows, CheckedRows, Starts, Guarded, Words}
 
@@ -32,14 +32,14 @@ pub record PlanOf (f g : Program) (w : World) (v : Weave) (blocks : List Block) 
 abbrev pub WeaveKept : Type 0
 WeaveKept =
     (f g : Program) (w : World) (v : Weave) (blocks : List Block) → PlanOf f g w v blocks → Rows w v (begins_at blocks)
-    → Starts f g w v (begins_at blocks) → Kept f g w.reached (start_steps v) (stage_steps v)
+    → Starts f g w v (begins_at blocks) → Kept f g w.reached (most_before_start v) (stage_steps v)
 
--- and with those of the entry a jump to a wrong entry fires
+-- with the laws of the rows and the entry a jump to a wrong entry fires
 abbrev pub WeaveLanded : Type 0
 WeaveLanded =
     (f g : Program) (w : World) (v : Weave) (blocks : List Block) (entries : List EntryRow) → PlanOf f g w v blocks → Rows w v (begins_at blocks)
     → Starts f g w v (begins_at blocks) → Guarded w v 4
-    → ((a e : ℕ) → IsEntry entries a e → (begins_at blocks a ≡ true) × (e ≡ w.entry a)) → LandedInStep 4 f g w.reached entries (start_steps v) (stage_steps v)
+    → ((a e : ℕ) → IsEntry entries a e → (begins_at blocks a ≡ true) × (e ≡ w.entry a)) → LandedInStep 4 f g w.reached entries (most_before_start v) (stage_steps v)
 
 -- nothing else is code
 pub record OnlyCode (f g : Program) (w : World) (s : Sequences) (blocks : List Block) : Type 0 where
@@ -51,21 +51,21 @@ pub record OnlyCode (f g : Program) (w : World) (s : Sequences) (blocks : List B
 
 -- the bounds are those of the weave
 pub record BoundsOf (w : World) (v : Weave) (bounds : Bounds) : Type 0 where
-  pub register : bounds.register ≡ register_bound (start_steps v) (stage_steps v)
-  pub word : bounds.word ≡ word_bound (word_count w.form.spans) v.round (start_steps v) (stage_steps v)
+  pub register : bounds.register ≡ register_bound (most_before_start v) (stage_steps v)
+  pub word : bounds.word ≡ word_bound (word_count w.form.spans) v.round (most_before_start v) (stage_steps v)
 
--- and with those of the words changes are caught
+-- with the laws of the rows and the words changes are caught
 abbrev pub WeaveCaught : Type 0
 WeaveCaught =
     (f g : Program) (w : World) (v : Weave) (blocks : List Block) (bounds : Bounds) → PlanOf f g w v blocks → CheckedRows w v (begins_at blocks)
     → Starts f g w v (begins_at blocks) → Words w.form.far v → OnlyCode f g w v.code blocks → 1 ≤ v.round
     → 2 ≤ v.leave_steps → v.compare_steps + 17 ≤ v.piece_steps
-    → BoundsOf w v bounds → CaughtInStep f g w.reached w.form.spans bounds (start_steps v) (stage_steps v)
+    → BoundsOf w v bounds → CaughtInStep f g w.reached w.form.spans bounds (most_before_start v) (stage_steps v)
 
--- and with the sweep no change before it is silent at the end
+-- with the sweep no change before it is silent at the end
 abbrev pub WeaveClean : Type 0
 WeaveClean =
     (f g : Program) (w : World) (v : Weave) (blocks : List Block) → PlanOf f g w v blocks → CheckedRows w v (begins_at blocks)
     → Starts f g w v (begins_at blocks) → Words w.form.far v → OnlyCode f g w v.code blocks → 1 ≤ v.round → 2 ≤ v.leave_steps
     → v.compare_steps + 17 ≤ v.piece_steps → v.sweeps ≡ true
-    → CleanInStep f g w.reached w.form.spans (v.sweep_steps + 14) (start_steps v) (stage_steps v)
+    → CleanInStep f g w.reached w.form.spans (v.sweep_steps + 14) (most_before_start v) (stage_steps v)

@@ -26,7 +26,7 @@ use Rattle.tests.specs.Files.File.{File}
 use Rattle.weave_core.specs.Tests.{IsWovenTest}
 use Rattle.weave_core.proofs.Lemmas.{tests_have_words, tests_kept, tests_landed}
 use Rattle.lockstep.proofs.Lemmas.{tests_caught, tests_clean}
-use Rattle.weave_examples.specs.FarTest.{far_bytes, far_test, far_options, far_code, far_blocks, far_plan, FarPromised, next, lui_8, ld_5, lui_9, sd_5, ld_6, mul, sub, call, ecall, add, jalr}
+use Rattle.weave_examples.specs.FarTest.{far_bytes, far_test, far_options, far_code, far_blocks, far_plan, FarPromised, next_jump, lui_8, ld_5, lui_9, sd_5, ld_6, mul, sub, call, ecall, add, jalr}
 
 -- ---- how many bytes new code has whose pieces have many visits: the visits are counted, not written out
 module _ (far : Bool) (form : Form) where
@@ -124,20 +124,20 @@ are =
     let stop = made.stopping far_test 0x10000 far_code known far_options refl refl in
     let other = made.other far_test 0x10000 far_code known far_options refl refl in
     made.are_blocks far_test 0x10000 far_code known far_options refl refl far_blocks refl refl refl
-    (inl (stop (take 0 far_code) ((lui_8 ∷ []) ∷ []) next (drop 2 far_code) refl refl refl)
-    beside inr (other (take 1 far_code) next (drop 2 far_code) refl refl)
-    beside inl (stop (take 2 far_code) ((ld_5 ∷ []) ∷ []) next (drop 4 far_code) refl refl refl)
-    beside inr (other (take 3 far_code) next (drop 4 far_code) refl refl)
-    beside inl (stop (take 4 far_code) ((lui_9 ∷ []) ∷ []) next (drop 6 far_code) refl refl refl)
-    beside inr (other (take 5 far_code) next (drop 6 far_code) refl refl)
-    beside inl (stop (take 6 far_code) ((sd_5 ∷ []) ∷ []) next (drop 8 far_code) refl refl refl)
-    beside inr (other (take 7 far_code) next (drop 8 far_code) refl refl)
-    beside inl (stop (take 8 far_code) ((ld_6 ∷ []) ∷ []) next (drop 10 far_code) refl refl refl)
-    beside inr (other (take 9 far_code) next (drop 10 far_code) refl refl)
-    beside inl (stop (take 10 far_code) ((mul ∷ []) ∷ []) next (drop 12 far_code) refl refl refl)
-    beside inr (other (take 11 far_code) next (drop 12 far_code) refl refl)
-    beside inl (stop (take 12 far_code) ((sub ∷ []) ∷ []) next (drop 14 far_code) refl refl refl)
-    beside inr (other (take 13 far_code) next (drop 14 far_code) refl refl)
+    (inl (stop (take 0 far_code) ((lui_8 ∷ []) ∷ []) next_jump (drop 2 far_code) refl refl refl)
+    beside inr (other (take 1 far_code) next_jump (drop 2 far_code) refl refl)
+    beside inl (stop (take 2 far_code) ((ld_5 ∷ []) ∷ []) next_jump (drop 4 far_code) refl refl refl)
+    beside inr (other (take 3 far_code) next_jump (drop 4 far_code) refl refl)
+    beside inl (stop (take 4 far_code) ((lui_9 ∷ []) ∷ []) next_jump (drop 6 far_code) refl refl refl)
+    beside inr (other (take 5 far_code) next_jump (drop 6 far_code) refl refl)
+    beside inl (stop (take 6 far_code) ((sd_5 ∷ []) ∷ []) next_jump (drop 8 far_code) refl refl refl)
+    beside inr (other (take 7 far_code) next_jump (drop 8 far_code) refl refl)
+    beside inl (stop (take 8 far_code) ((ld_6 ∷ []) ∷ []) next_jump (drop 10 far_code) refl refl refl)
+    beside inr (other (take 9 far_code) next_jump (drop 10 far_code) refl refl)
+    beside inl (stop (take 10 far_code) ((mul ∷ []) ∷ []) next_jump (drop 12 far_code) refl refl refl)
+    beside inr (other (take 11 far_code) next_jump (drop 12 far_code) refl refl)
+    beside inl (stop (take 12 far_code) ((sub ∷ []) ∷ []) next_jump (drop 14 far_code) refl refl refl)
+    beside inr (other (take 13 far_code) next_jump (drop 14 far_code) refl refl)
     beside inl (stop (take 14 far_code) [] call (drop 15 far_code) refl refl refl)
     beside inl (stop (take 15 far_code) [] ecall (drop 16 far_code) refl refl refl)
     beside inl (stop (take 16 far_code) ((add ∷ []) ∷ []) jalr (drop 18 far_code) refl refl refl)

@@ -15,12 +15,12 @@ use Rattle.weave_core.specs.Rows.{At, Sourced, Mirrors}
 use Rattle.weave_core.specs.KindItems.{MirrorsFit}
 use Rattle.weave_core.specs.Pass.{Views, Lockstep}
 use Rattle.weave_core.specs.Each.{items_each}
-use Rattle.weave_core.specs.Parts.{any, bare, GivesMirror, LeavesMirror}
+use Rattle.weave_core.specs.Parts.{any, unguarded, GivesMirror, LeavesMirror}
 use Rattle.weave_core.specs.Weave.{Weave}
 use Rattle.weave_core.specs.WeaveLaws.{PieceAt, Trail, GoesTo, Inside, Checked, Words, CheckedRows, Starts}
 use Rattle.weave_core.proofs.Lemmas.{Row, holds_of, met_at, met_going, met_same, originals_trail, trail_later, trail_none, trail_on, not_trapped_le, source_run, not_trapped_front, has_front, checked_behind, words_within, has_rest, quiet_then, quiet_each, each_same, never_originals, never_mirrors, for_mirrors, needs_originals, needs_mirrors, gives_originals, gives_mirrors, cost_parts, guarded_original, held_parts, held_is, goes_is, plus, each_plus, NeedsOther, other_cost, quiet_other, quiet_front, lockstep_piece, front_row, both, both_steps, form_checks, rows_with, starts_with, form_guarded, weave_kept, weave_landed}
 use Rattle.lockstep.proofs.Lemmas.{form_words, visits_ten, weave_caught, weave_clean}
-use Rattle.weave_examples.specs.Joined.{all_runs, runs_items, joined, JoinedKept, JoinedLanded, JoinedCaught, JoinedClean}
+use Rattle.weave_examples.specs.Joined.{all_runs, runs_items, joined_weave, JoinedKept, JoinedLanded, JoinedCaught, JoinedClean}
 
 -- ---- lists in two parts
 fit_parts : (xs ys : List Ins) → AllFit (xs ++ ys) → AllFit xs × AllFit ys
@@ -35,8 +35,8 @@ module _ (w : World) (law : Mirrors w) where
       → Row w u s (length r) (w.form.cost * length r) rest
   one_run r u s rest clean fit has a so calm =
       let v : Views = record { now = u; original = s; shadow = s; leads = λ a. false } in
-      let os = each_same plus (λ i at. guards (used i) ++ bare i at) original guarded_original r s.pc ∙ each_plus original r s.pc in
-      let same = ap (λ l. l ++ each_part w.form.mirror r s.pc) (sym os) ∙ ap (λ l. items_each plus (λ i at. guards (used i) ++ bare i at) r s.pc ++ l) (sym (each_plus w.form.mirror r s.pc)) in
+      let os = each_same plus (λ i at. guards (used i) ++ unguarded i at) original guarded_original r s.pc ∙ each_plus original r s.pc in
+      let same = ap (λ l. l ++ each_part w.form.mirror r s.pc) (sym os) ∙ ap (λ l. items_each plus (λ i at. guards (used i) ++ unguarded i at) r s.pc ++ l) (sym (each_plus w.form.mirror r s.pc)) in
       let mirrors = quiet_each plus any (λ i at. FitsPiece i) (λ i. []) w.form.mirror (NeedsOther w.form) GivesMirror LeavesMirror (other_cost w.form) (quiet_other w.form) r s.pc (for_mirrors plus r s.pc fit) in
       let g = (quiet_then any any _ _ _ _ _ _ _ _ _ _ (quiet_front w.form r s.pc fit) mirrors).leads w v rest (tt, tt) (subst (λ l. At w u (l ++ rest) s s) same a) (
         needs_originals plus (λ a h. refl) w r (λ r. false) s.pc v fit clean (λ r e. refl) so refl has calm,
@@ -179,7 +179,7 @@ runs_lockstep form checks m c (r ∷ rs) at h =
 
 -- ---- the laws
 module _ (cut : List Ins → List (List Ins)) (keeps : (is : List Ins) → whole (cut is) ≡ is) where
-  joined_words : (form : Form) (most : ℕ) → MirrorsFit form.far form.mirror → Words form.far (joined cut form most)
+  joined_words : (form : Form) (most : ℕ) → MirrorsFit form.far form.mirror → Words form.far (joined_weave cut form most)
   joined_words form most m =
       let old = form_words form most m in
       let laws = (form_checks form).lockstep in
@@ -199,7 +199,7 @@ module _ (cut : List Ins → List (List Ins)) (keeps : (is : List Ins) → whole
 
   module _ (w : World) (most : ℕ) (leader : ℕ → Bool) (law : Mirrors w) where
     abbrev j : Weave
-    j = joined cut w.form most
+    j = joined_weave cut w.form most
 
     abbrev checks : List Item
     checks = both w most
@@ -278,17 +278,17 @@ module _ (cut : List Ins → List (List Ins)) (keeps : (is : List Ins) → whole
 
   -- ---- the promises
   pub kept : JoinedKept cut
-  kept f g w most blocks p law = weave_kept f g w (joined cut w.form most) blocks p (joined_rows w most (begins_at blocks) law).rows (joined_starts w most (begins_at blocks) law f g)
+  kept f g w most blocks p law = weave_kept f g w (joined_weave cut w.form most) blocks p (joined_rows w most (begins_at blocks) law).rows (joined_starts w most (begins_at blocks) law f g)
 
   pub landed : JoinedLanded cut
-  landed f g w most blocks entries p law known = weave_landed f g w (joined cut w.form most) blocks entries p (joined_rows w most (begins_at blocks) law).rows (joined_starts w most (begins_at blocks) law f g) (let o = form_guarded w most (both w most) 0 (both_steps w most) in record { signed = o.signed; fires = o.fires }) known
+  landed f g w most blocks entries p law known = weave_landed f g w (joined_weave cut w.form most) blocks entries p (joined_rows w most (begins_at blocks) law).rows (joined_starts w most (begins_at blocks) law f g) (let o = form_guarded w most (both w most) 0 (both_steps w most) in record { signed = o.signed; fires = o.fires }) known
 
   pub caught : JoinedCaught cut
   caught f g w most blocks bounds p law fit closed some b =
       let ten = visits_ten w.form.spans w.form.round some in
-      weave_caught f g w (joined cut w.form most) blocks bounds p (joined_rows w most (begins_at blocks) law) (joined_starts w most (begins_at blocks) law f g) (joined_words w.form most fit) closed some (omega arith) (omega (arith, ten)) b
+      weave_caught f g w (joined_weave cut w.form most) blocks bounds p (joined_rows w most (begins_at blocks) law) (joined_starts w most (begins_at blocks) law f g) (joined_words w.form most fit) closed some (omega arith) (omega (arith, ten)) b
 
   pub clean : JoinedClean cut
   clean f g w most blocks p law fit closed some sweeps =
       let ten = visits_ten w.form.spans w.form.round some in
-      weave_clean f g w (joined cut w.form most) blocks p (joined_rows w most (begins_at blocks) law) (joined_starts w most (begins_at blocks) law f g) (joined_words w.form most fit) closed some (omega arith) (omega (arith, ten)) sweeps
+      weave_clean f g w (joined_weave cut w.form most) blocks p (joined_rows w most (begins_at blocks) law) (joined_starts w most (begins_at blocks) law f g) (joined_words w.form most fit) closed some (omega arith) (omega (arith, ten)) sweeps

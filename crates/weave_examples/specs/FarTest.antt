@@ -47,7 +47,9 @@ abbrev variable : Segment
 variable = record { kind = 1; flags = 6; address = 0x21000; memory = 8; bytes = 0 ∷ 0 ∷ 0 ∷ 0 ∷ 0 ∷ 0 ∷ 0 ∷ 0 ∷ [] }
 
 unfoldable pub far_bytes : List ℕ
-far_bytes = header ++ (fields_bytes (program_fields text 0xe8 ++ (program_fields constant 0x130 ++ program_fields variable 0x138)) ++ (code_bytes ++ (constant.bytes ++ variable.bytes)))
+far_bytes = header
+    ++ (fields_bytes (program_fields text 0xe8 ++ (program_fields constant 0x130 ++ program_fields variable 0x138))
+    ++ (code_bytes ++ (constant.bytes ++ variable.bytes)))
 
 -- the file with these bytes
 abbrev pub far_test : ElfFile
@@ -59,8 +61,8 @@ far_options = record { inst_min = 4; inst_max = 16; round = 1024; half = None; s
 
 -- ---- its instructions and blocks
 -- a jump to the next address, so that an entry stands there
-abbrev pub next : Ins
-next = ins Jal 0 0 0 (pos 4)
+abbrev pub next_jump : Ins
+next_jump = ins Jal 0 0 0 (pos 4)
 
 abbrev pub lui_8 : Ins
 lui_8 = ins Lui 8 0 0 (pos 0x20000)
@@ -97,7 +99,7 @@ jalr = ins Jalr 0 1 0 (pos 0)
 
 abbrev pub far_code : List Ins
 far_code =
-    lui_8 ∷ next ∷ ld_5 ∷ next ∷ lui_9 ∷ next ∷ sd_5 ∷ next ∷ ld_6 ∷ next ∷ mul ∷ next ∷ sub ∷ next ∷ call ∷ ecall ∷ add ∷ jalr ∷ []
+    lui_8 ∷ next_jump ∷ ld_5 ∷ next_jump ∷ lui_9 ∷ next_jump ∷ sd_5 ∷ next_jump ∷ ld_6 ∷ next_jump ∷ mul ∷ next_jump ∷ sub ∷ next_jump ∷ call ∷ ecall ∷ add ∷ jalr ∷ []
 
 -- a block of one instruction and the jump behind it, and one of an end alone
 abbrev one : ℕ → Ins → Ins → Block
@@ -108,9 +110,9 @@ bare a e = record { start = a; body = [] ∷ []; end = Stops e; reached = false 
 
 abbrev pub far_blocks : List Block
 far_blocks =
-    one 0x10000 lui_8 next ∷ bare 0x10004 next ∷ one 0x10008 ld_5 next ∷ bare 0x1000c next ∷ one 0x10010 lui_9 next ∷ bare 0x10014 next
-    ∷ one 0x10018 sd_5 next ∷ bare 0x1001c next ∷ one 0x10020 ld_6 next ∷ bare 0x10024 next ∷ one 0x10028 mul next ∷ bare 0x1002c next
-    ∷ one 0x10030 sub next ∷ bare 0x10034 next ∷ bare 0x10038 call ∷ bare 0x1003c ecall ∷ one 0x10040 add jalr ∷ bare 0x10044 jalr ∷ []
+    one 0x10000 lui_8 next_jump ∷ bare 0x10004 next_jump ∷ one 0x10008 ld_5 next_jump ∷ bare 0x1000c next_jump ∷ one 0x10010 lui_9 next_jump ∷ bare 0x10014 next_jump
+    ∷ one 0x10018 sd_5 next_jump ∷ bare 0x1001c next_jump ∷ one 0x10020 ld_6 next_jump ∷ bare 0x10024 next_jump ∷ one 0x10028 mul next_jump ∷ bare 0x1002c next_jump
+    ∷ one 0x10030 sub next_jump ∷ bare 0x10034 next_jump ∷ bare 0x10038 call ∷ bare 0x1003c ecall ∷ one 0x10040 add jalr ∷ bare 0x10044 jalr ∷ []
 
 -- ---- the plan of its output
 abbrev pub far_plan : Plan

@@ -13,7 +13,7 @@ use Rattle.qed_model.specs.Weave.Sequences.{Ins, Form, Block, original, each_par
 use Rattle.weave_core.specs.World.{Item, World, Program}
 use Rattle.weave_core.specs.Rows.{Mirrors}
 use Rattle.weave_core.specs.KindItems.{MirrorsFit}
-use Rattle.weave_core.specs.Weave.{Weave, start_steps, stage_steps}
+use Rattle.weave_core.specs.Weave.{Weave, most_before_start, stage_steps}
 use Rattle.weave_core.specs.WeaveForms.{weave_of}
 use Rattle.weave_core.specs.WeavePromise.{PlanOf, OnlyCode, BoundsOf}
 
@@ -28,8 +28,8 @@ runs_items form [] at = []
 runs_items form (r ∷ rs) at = (each_part original r at ++ each_part form.mirror r at) ++ runs_items form rs (at + 4 * length r)
 
 -- the weave with a way of cutting instructions into runs, and at most `most` instructions in a piece
-abbrev pub joined : (List Ins → List (List Ins)) → Form → ℕ → Weave
-joined cut form most = record (weave_of form most) {
+abbrev pub joined_weave : (List Ins → List (List Ins)) → Form → ℕ → Weave
+joined_weave cut form most = record (weave_of form most) {
   code = record (sequences form) { piece = λ is at. runs_items form (cut is) at ++ (compare ++ visit form.round form.spans) };
   fits = λ is. all_runs (cut is) && nat_le (length is) most;
 }
@@ -46,25 +46,28 @@ cut_runs (i ∷ is) = put_first i (cut_runs is)
 -- ---- what is promised of joined pieces, with any way of cutting that keeps the instructions
 abbrev pub JoinedKept : (List Ins → List (List Ins)) → Type 0
 JoinedKept cut =
-    (f g : Program) (w : World) (most : ℕ) (blocks : List Block) → PlanOf f g w (joined cut w.form most) blocks → Mirrors w
-    → Kept f g w.reached (start_steps (joined cut w.form most)) (stage_steps (joined cut w.form most))
+    (f g : Program) (w : World) (most : ℕ) (blocks : List Block) → PlanOf f g w (joined_weave cut w.form most) blocks → Mirrors w
+    → Kept f g w.reached (most_before_start (joined_weave cut w.form most)) (stage_steps (joined_weave cut w.form most))
 
 abbrev pub JoinedLanded : (List Ins → List (List Ins)) → Type 0
 JoinedLanded cut =
-    (f g : Program) (w : World) (most : ℕ) (blocks : List Block) (entries : List EntryRow) → PlanOf f g w (joined cut w.form most) blocks → Mirrors w
-    → ((a e : ℕ) → IsEntry entries a e → (begins_at blocks a ≡ true) × (e ≡ w.entry a)) → LandedInStep 4 f g w.reached entries (start_steps (joined cut w.form most)) (stage_steps (joined cut w.form most))
+    (f g : Program) (w : World) (most : ℕ) (blocks : List Block) (entries : List EntryRow) → PlanOf f g w (joined_weave cut w.form most) blocks → Mirrors w
+    → ((a e : ℕ) → IsEntry entries a e → (begins_at blocks a ≡ true) × (e ≡ w.entry a))
+    → LandedInStep 4 f g w.reached entries (most_before_start (joined_weave cut w.form most)) (stage_steps (joined_weave cut w.form most))
 
 abbrev pub JoinedCaught : (List Ins → List (List Ins)) → Type 0
 JoinedCaught cut =
-    (f g : Program) (w : World) (most : ℕ) (blocks : List Block) (bounds : Bounds) → PlanOf f g w (joined cut w.form most) blocks → Mirrors w
-    → MirrorsFit w.form.far w.form.mirror → OnlyCode f g w (joined cut w.form most).code blocks → 1 ≤ w.form.round
-    → BoundsOf w (joined cut w.form most) bounds → CaughtInStep f g w.reached w.form.spans bounds (start_steps (joined cut w.form most)) (stage_steps (joined cut w.form most))
+    (f g : Program) (w : World) (most : ℕ) (blocks : List Block) (bounds : Bounds) → PlanOf f g w (joined_weave cut w.form most) blocks → Mirrors w
+    → MirrorsFit w.form.far w.form.mirror → OnlyCode f g w (joined_weave cut w.form most).code blocks → 1 ≤ w.form.round
+    → BoundsOf w (joined_weave cut w.form most) bounds
+    → CaughtInStep f g w.reached w.form.spans bounds (most_before_start (joined_weave cut w.form most)) (stage_steps (joined_weave cut w.form most))
 
 abbrev pub JoinedClean : (List Ins → List (List Ins)) → Type 0
 JoinedClean cut =
-    (f g : Program) (w : World) (most : ℕ) (blocks : List Block) → PlanOf f g w (joined cut w.form most) blocks → Mirrors w
-    → MirrorsFit w.form.far w.form.mirror → OnlyCode f g w (joined cut w.form most).code blocks → 1 ≤ w.form.round → w.form.sweep ≡ true
-    → CleanInStep f g w.reached w.form.spans ((joined cut w.form most).sweep_steps + 14) (start_steps (joined cut w.form most)) (stage_steps (joined cut w.form most))
+    (f g : Program) (w : World) (most : ℕ) (blocks : List Block) → PlanOf f g w (joined_weave cut w.form most) blocks → Mirrors w
+    → MirrorsFit w.form.far w.form.mirror → OnlyCode f g w (joined_weave cut w.form most).code blocks → 1 ≤ w.form.round → w.form.sweep ≡ true
+    → CleanInStep f g w.reached w.form.spans ((joined_weave cut w.form most).sweep_steps + 14)
+    (most_before_start (joined_weave cut w.form most)) (stage_steps (joined_weave cut w.form most))
 
 -- the cut above keeps the instructions and gives runs: so each list of at most `most` instructions is one piece
 abbrev pub CutsRuns : Type 0

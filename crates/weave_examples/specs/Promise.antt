@@ -9,7 +9,7 @@ use Rattle.qed_model.specs.Weave.Sequences.{Form, Block, guard, compare, visit, 
 use Rattle.weave_core.specs.World.{Item, World, Program}
 use Rattle.weave_core.specs.Rows.{Mirrors}
 use Rattle.weave_core.specs.KindItems.{MirrorsFit}
-use Rattle.weave_core.specs.Weave.{Weave, start_steps, stage_steps}
+use Rattle.weave_core.specs.Weave.{Weave, most_before_start, stage_steps}
 use Rattle.weave_core.specs.WeaveForms.{weave_with}
 use Rattle.weave_core.specs.WeavePromise.{PlanOf, OnlyCode, BoundsOf}
 
@@ -27,10 +27,11 @@ with_one form most = weave_with form most (checks_of form) 1 (steps_of form)
 abbrev pub OneKept : Type 0
 OneKept =
     (f g : Program) (w : World) (most : ℕ) (blocks : List Block) → PlanOf f g w (with_one w.form most) blocks → Mirrors w
-    → KeptInStep f g w.reached w.distance (start_steps (with_one w.form most)) (stage_steps (with_one w.form most))
+    → KeptInStep f g w.reached w.distance (most_before_start (with_one w.form most)) (stage_steps (with_one w.form most))
 
 abbrev pub OneCaught : Type 0
 OneCaught =
     (f g : Program) (w : World) (most : ℕ) (blocks : List Block) (bounds : Bounds) → PlanOf f g w (with_one w.form most) blocks → Mirrors w
     → MirrorsFit w.form.far w.form.mirror → OnlyCode f g w (with_one w.form most).code blocks → 1 ≤ w.form.round
-    → BoundsOf w (with_one w.form most) bounds → CaughtInStep f g w.reached w.form.spans bounds (start_steps (with_one w.form most)) (stage_steps (with_one w.form most))
+    → BoundsOf w (with_one w.form most) bounds
+    → CaughtInStep f g w.reached w.form.spans bounds (most_before_start (with_one w.form most)) (stage_steps (with_one w.form most))

@@ -18,7 +18,7 @@ pub struct CompareOne;
 impl Pass for CompareOne {
     ghost use Rattle.std.specs.Prelude.{[], ◌≡◌};
     ghost use Rattle.qed_model.specs.Weave.Sequences.{guard};
-    ghost use Rattle.passes.specs.Pass.{Does, same};
+    ghost use Rattle.passes.specs.Pass.{Does, same_state};
     ghost use Rattle.weave_examples.specs.Laws.{any, quiet_one, honest_one, lockstep_one};
 
     ghost is_for = { λ p i at. Unit {0} };
@@ -33,7 +33,7 @@ impl Pass for CompareOne {
 
     ghost needs = { λ p i at w v. v.original ≡ v.shadow };
 
-    ghost gives = { λ p i at w. Does w same same 0 };
+    ghost gives = { λ p i at w. Does w same_state same_state 0 };
 
     ghost leaves = { λ p i at w v n z. ⊥ };
 

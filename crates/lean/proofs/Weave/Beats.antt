@@ -17,7 +17,7 @@ use Rattle.weave_core.specs.Leaving.{sweep_cost}
 use Rattle.weave_core.specs.WeaveLaws.{EntriesAt, Swept, Trail, Feeds}
 use Rattle.weave_core.proofs.Lemmas.{first_sourced, words_within, trail_first, trail_on, feeds_first, feeds_less, feeds_on}
 use Rattle.lockstep.proofs.Lemmas.{AtNumber, placed, round_of, round_on, Sizes, NextSteps, PieceSteps, EndsSoon, Trace, SweptEnd, ToEnd, LastBoundary, to_end, Numbered, next_numbered, visits_in, swept_is}
-use Rattle.lean.specs.Woven.{weave_of, LeanIn, check_steps, swept_steps, owed}
+use Rattle.lean.specs.Woven.{lean_weave_of, LeanIn, check_steps, swept_steps, owed}
 use Rattle.lean.proofs.Weave.Begin.{begin_law, first_is}
 use Rattle.lean.proofs.Weave.Cells.{Counts, Called, Finished, Begins, called, ahead, to_check}
 use Rattle.lean.proofs.Weave.Check.{Back}
@@ -26,8 +26,8 @@ use Rattle.lean.proofs.Weave.End.{Sweeps, swept_on}
 use Rattle.lean.proofs.Weave.Left.{lean_rows}
 use Rattle.lean.proofs.Weave.Rows.{AtCheck, checks}
 
-module _ (f g : Program) (w : World) (l : Lean) (leader : ℕ → Bool) (x : LeanIn w l leader) (of : Describes f g w) (entries : EntriesAt w (weave_of w l leader) leader) (counts : Counts w l leader entries) (leads : leader f.entry ≡ true) (ticked : l.ticks f.entry ≡ true) (begins : Reads w.form.far w.code w.entry g.entry (begin w.distance f.entry)) where
-  -- from a call of the check to the next, to behind its comparison with four steps left, and what runs before the end besides
+module _ (f g : Program) (w : World) (l : Lean) (leader : ℕ → Bool) (x : LeanIn w l leader) (of : Describes f g w) (entries : EntriesAt w (lean_weave_of w l leader) leader) (counts : Counts w l leader entries) (leads : leader f.entry ≡ true) (ticked : l.ticks f.entry ≡ true) (begins : Reads w.form.far w.code w.entry g.entry (begin w.distance f.entry)) where
+  -- from a call of the check to the next, to behind its comparison with four steps left, and the run before the end
   abbrev pub sizes : Sizes
   sizes = record { piece = check_steps w + (l.every + entry_steps l.land + call_steps l.land); check = 20; last = 2 + swept_steps w; words = word_count w.form.spans; round = round_of (word_count w.form.spans) w.form.round }
 

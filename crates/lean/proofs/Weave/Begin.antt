@@ -10,8 +10,8 @@ use Rattle.weave_core.specs.Describes.{Describes}
 use Rattle.weave_core.specs.World.{World, Quiet, GoodSpans, IsCursor, Item, Plain, Constant, Go, Program, start, zeros, AreStartRegs, State, reg, moved, ins, Addi}
 use Rattle.weave_core.specs.WeaveLaws.{GoesTo, Stands, Starts}
 use Rattle.weave_core.proofs.Lemmas.{addi_value, go_most, go_walk, halved_gone, begin_row, writes, halved_writes}
-use Rattle.lean.specs.Ticked.{counted, is_ticked_at}
-use Rattle.lean.specs.Woven.{LeanIn, weave_of}
+use Rattle.lean.specs.Ticked.{with_count, is_ticked_at}
+use Rattle.lean.specs.Woven.{LeanIn, lean_weave_of}
 use Rattle.lean.proofs.Weave.Chain.{Op, plain, constant, effects, Gives, read_back, all_temps, chain}
 use Rattle.lean.proofs.Weave.Held.{ticked_is}
 
@@ -22,7 +22,7 @@ first_is base (r ∷ rs) g = inl (omega (arith, g.0.start), omega arith, omega (
 
 module _ (w : World) (l : Lean) (leader : ℕ → Bool) (x : LeanIn w l leader) (a : ℕ) (low : a < 2 ^ 64) where
   abbrev begin_ops : List Op
-  begin_ops = constant 16 a ∷ plain (ins Addi CURSOR 0 0 (pos 2047)) (counted 0 2047) ∷ []
+  begin_ops = constant 16 a ∷ plain (ins Addi CURSOR 0 0 (pos 2047)) (with_count 0 2047) ∷ []
 
   begin_gives : (u : State) → length u.regs ≡ 32 → reg u 0 ≡ 0 → Gives u u.regs begin_ops
   begin_gives u long zero_reg =
@@ -33,7 +33,7 @@ module _ (w : World) (l : Lean) (leader : ℕ → Bool) (x : LeanIn w l leader) 
         (
           refl,
           λ e. absurd (cc),
-          λ p. addi_value (moved (writes e1 u.regs) p u) 15 0 0 (counted 0 2047) (pos 2047) (read_back e1 u.regs 0 long refl ∙ zero_reg) (omega arith),
+          λ p. addi_value (moved (writes e1 u.regs) p u) 15 0 0 (with_count 0 2047) (pos 2047) (read_back e1 u.regs 0 long refl ∙ zero_reg) (omega arith),
           tt,
         ),
       )
@@ -42,7 +42,7 @@ module _ (w : World) (l : Lean) (leader : ℕ → Bool) (x : LeanIn w l leader) 
 pub begin_law :
     (f g : Program) (w : World) (l : Lean) (leader : ℕ → Bool) → LeanIn w l leader → Describes f g w → IsEntryOf w f.entry → leader f.entry ≡ true
     → Reads w.form.far w.code w.entry g.entry (begin w.distance f.entry) → (regs : List ℕ) → AreStartRegs regs
-    → GoesTo w (start g regs) 27 31 (λ n y. Stands w leader y (start f zeros) × (reg y CURSOR ≡ counted 0 2047) × (reg y SIGNATURE ≡ f.entry))
+    → GoesTo w (start g regs) 27 31 (λ n y. Stands w leader y (start f zeros) × (reg y CURSOR ≡ with_count 0 2047) × (reg y SIGNATURE ≡ f.entry))
 begin_law f g w l leader x of entry leads h regs are =
     let s0 = start f zeros in
     let b = begin_row f g w of regs are (begin_rest f.entry) h in
@@ -56,7 +56,7 @@ begin_law f g w l leader x of entry leads h regs are =
     let go = go_walk w y f.entry [] oy s.reads hy.output.regs entry.entry_low entry.grain in
     let z = moved go.regs (w.entry f.entry) y in
     let one : go_most w.form.far ≡ 1 = ap go_most x.near in
-    let fifteen : reg z CURSOR ≡ counted 0 2047 = go.same 15 (λ e. absurd (omega arith)) ∙ read_back ws b.to.regs 15 long refl in
+    let fifteen : reg z CURSOR ≡ with_count 0 2047 = go.same 15 (λ e. absurd (omega arith)) ∙ read_back ws b.to.regs 15 long refl in
     let sixteen : reg z SIGNATURE ≡ f.entry = go.same 16 (λ e. absurd (omega arith)) ∙ read_back ws b.to.regs 16 long refl in
     record {
       steps = 27 + (3 + go.steps);
@@ -93,7 +93,7 @@ lean_first f g w l leader x of entry leads h regs are =
     }
 
 -- of the words that run first
-pub lean_starts : (f g : Program) (w : World) (l : Lean) (leader : ℕ → Bool) → LeanIn w l leader → Starts f g w (weave_of w l leader) leader
+pub lean_starts : (f g : Program) (w : World) (l : Lean) (leader : ℕ → Bool) → LeanIn w l leader → Starts f g w (lean_weave_of w l leader) leader
 lean_starts f g w l leader x = record {
   first = λ of entry leads h regs are.
       let b = lean_first f g w l leader x of entry leads h regs are in

@@ -1,5 +1,5 @@
--- The blocks of a test with entries where a jump by register can lead: each begins behind the words of those before it. So an address and the kind of an end tell
--- a block, and where one goes on at a leader, the next begins.
+-- The blocks of a test with entries where a jump by register can lead: each begins behind the words of those before it.
+-- So an address and the kind of an end determine a block, and one that goes on at a leader is followed by the next.
 use Rattle.std.proofs.Common.{◌≡◌, ℕ, ◌+◌, ◌-◌, ◌*◌, ◌/◌, ◌%◌, ◌^◌, ◌<◌, ◌≤◌, inl, inr, ⊎_elim, Bool, true, false, cond, List, [], ◌∷◌, length, refl, sym, ap, ◌∙◌, subst, arith}
 use Rattle.std.specs.Prelude.{◌==◌, ◌&&◌}
 use Rattle.std.proofs.lemmas.Bool.{and_parts, cases_lt, eq-eqb, eqb-true, false≢true, or_cases, or_left, or_right}
@@ -12,11 +12,11 @@ use Rattle.qed_model.specs.Weave.LeanCode.{end_at, is_alike, start_at, Lean}
 use Rattle.machine.proofs.Lemmas.{all_among}
 use Rattle.qed_model.proofs.Lemmas.{pieces_whole}
 use Rattle.weave_core.specs.World.{World}
-use Rattle.weave_core.specs.WeaveForms.{weave_of as form_weave}
+use Rattle.weave_core.specs.WeaveForms.{lean_weave_of as form_weave}
 use Rattle.weave_core.specs.WeaveLaws.{PiecesAt, stops}
 use Rattle.weave_core.specs.WeavePromise.{AllBlocksOf}
 use Rattle.weave_core.proofs.Lemmas.{Ascend, body_size}
-use Rattle.lean.specs.Woven.{weave_of, goes_on, begins_with, InOrder}
+use Rattle.lean.specs.Woven.{lean_weave_of, goes_on, begins_with, InOrder}
 
 -- ---- members
 -- a leader begins a block of the list
@@ -163,13 +163,13 @@ module _ (f : ElfFile) (o : Options) (some : 1 ≤ o.inst_max) where
 
 -- ---- from one weave to the other
 module _ (w : World) (l : Lean) (leader : ℕ → Bool) where
-  pieces_at : (ps : List (List Ins)) (e : End) (a : ℕ) → PiecesAt w (form_weave w.form l.inst_max) leader ps e a → PiecesAt w (weave_of w l leader) leader ps e a
+  pieces_at : (ps : List (List Ins)) (e : End) (a : ℕ) → PiecesAt w (form_weave w.form l.inst_max) leader ps e a → PiecesAt w (lean_weave_of w l leader) leader ps e a
   pieces_at [] e a q = q
   pieces_at (p ∷ ps) e a q = (record { has = q.0.has; fit = q.0.fit; one = q.0.one }, pieces_at ps e (a + 4 * length p) q.1)
 
   -- blocks of a form are blocks of the lean form, where they are found by their ends
   pub all_good :
       (bs : List Block) → ((b : Block) → Among b bs → ((l.start_of b.end (b.start + 4 * body_length b.body) == b.start) && leader b.start) ≡ true)
-      → AllBlocksOf w (form_weave w.form l.inst_max) leader bs → AllBlocksOf w (weave_of w l leader) leader bs
+      → AllBlocksOf w (form_weave w.form l.inst_max) leader bs → AllBlocksOf w (lean_weave_of w l leader) leader bs
   all_good [] own g = tt
   all_good (b ∷ bs) own g = (record { low = g.0.low; pieces = pieces_at b.body b.end b.start g.0.pieces; some = g.0.some; full = g.0.full; own = own b (inl refl) }, all_good bs (λ c m. own c (inr m)) g.1)

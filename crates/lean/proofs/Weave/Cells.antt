@@ -15,25 +15,25 @@ use Rattle.weave_core.specs.Rows.{At, Sourced}
 use Rattle.weave_core.specs.Weave.{Weave}
 use Rattle.weave_core.specs.WeaveLaws.{PieceAt, PiecesAt, EntriesAt, Met, Trail, Feeds, Stands, stops, Onward, lands, is_lost, GoesTo}
 use Rattle.weave_core.proofs.Lemmas.{no_code, source_run, steady_le, steady_none, none_run, one_run, holds_of, met_at, met_going, met_same, trail_first, trail_leave, trail_none, trail_on, feeds_first, feeds_less, feeds_on}
-use Rattle.lean.specs.Woven.{weave_of, LeanIn, swept_steps, owed, IsCounted, may_lead}
+use Rattle.lean.specs.Woven.{lean_weave_of, LeanIn, swept_steps, owed, IsCounted, may_lead}
 use Rattle.lean.proofs.Weave.Costs.{entry_some}
 use Rattle.lean.proofs.Weave.End.{Sweeps, swept_on}
 use Rattle.lean.proofs.Weave.Leave.{SignedAs}
 use Rattle.lean.proofs.Weave.Left.{Parts, leave_row}
 use Rattle.lean.proofs.Weave.Piece.{piece_part}
 use Rattle.lean.proofs.Weave.Rows.{Entered as EnteredAt, Enters, AtCheck, passes, skips, calls}
-use Rattle.lean.specs.Ticked.{counted}
+use Rattle.lean.specs.Ticked.{with_count}
 use Rattle.lean.proofs.Weave.Held.{ticked_of}
 
 -- the steps of each block are counted
-pub record Counts (w : World) (l : Lean) (leader : ℕ → Bool) (entries : EntriesAt w (weave_of w l leader) leader) : Type 0 where
+pub record Counts (w : World) (l : Lean) (leader : ℕ → Bool) (entries : EntriesAt w (lean_weave_of w l leader) leader) : Type 0 where
   pub each : (a : ℕ) (h : leader a ≡ true) → IsCounted l leader (record { start = a; body = (entries a h).body; end = (entries a h).end; reached = (entries a h).reached })
 
 module _ (w : World) (l : Lean) (leader : ℕ → Bool) (x : LeanIn w l leader) (block : (a : ℕ) → leader a ≡ true → IsEntryOf w a) where
   abbrev v : Weave
-  v = weave_of w l leader
+  v = lean_weave_of w l leader
 
-  -- the test has ended, in so many steps at most, and those of the sweep
+  -- the test has ended, in at most `most` steps and those of the sweep
   pub record Finished (u : State) (most : ℕ) : Type 0 where
     pub steps : ℕ
     pub to : State
@@ -175,17 +175,17 @@ module _ (w : World) (l : Lean) (leader : ℕ → Bool) (x : LeanIn w l leader) 
           both m a c h = omega (arith, h)
 
   -- ---- block after block
-  -- what is asked of the begin of a block: so many steps may be counted before the count passes 2047
+  -- what is asked of the begin of a block: `room` steps may be counted before the count passes 2047
   pub record Begins (u s : State) (room off : ℕ) : Type 0 where
     pub stands : Stands w leader u s
     pub sourced : Sourced w s
     pub most : room ≤ l.every
-    pub fifteen : reg u CURSOR ≡ counted off (2047 - room)
+    pub fifteen : reg u CURSOR ≡ with_count off (2047 - room)
     pub few : off < 2 ^ 32
     pub sign : reg u SIGNATURE ≡ s.pc
     pub cursor : IsCursor w.form.spans (first_word w.base w.form.spans + off)
 
-  module _ (entries : EntriesAt w (weave_of w l leader) leader) (counts : Counts w l leader entries) where
+  module _ (entries : EntriesAt w (lean_weave_of w l leader) leader) (counts : Counts w l leader entries) where
     -- what stands at the entry of the block
     module _ (u s : State) (room off : ℕ) (b : Begins u s room off) where
       abbrev rest : List Item
@@ -216,7 +216,7 @@ module _ (w : World) (l : Lean) (leader : ℕ → Bool) (x : LeanIn w l leader) 
       room_most : room ≤ 2047
       room_most = let h = b.most in let k = x.few in omega (arith, h, k)
 
-      -- behind the entry, where so many steps may be counted
+      -- behind the entry, from which `room` steps may be counted
       pub record Passed : Type 0 where
         pub steps : ℕ
         pub count : ℕ
@@ -226,11 +226,11 @@ module _ (w : World) (l : Lean) (leader : ℕ → Bool) (x : LeanIn w l leader) 
         pub sum : count + l.most s.pc ≤ room + owed l s.pc
         pub walk : Walk (Quiet w) u steps to
         pub at : At w to rest s s
-        pub fifteen : reg to CURSOR ≡ counted off (2047 - count)
+        pub fifteen : reg to CURSOR ≡ with_count off (2047 - count)
         pub sixteen : reg to SIGNATURE ≡ s.pc
 
       entered :
-          (least count number : ℕ) → GoesTo w u least (entry_steps l.land) (λ n y. EnteredAt w l leader x s rest s.pc n y × (reg y CURSOR ≡ counted off number)) → number ≡ 2047 - count → count ≤ room
+          (least count number : ℕ) → GoesTo w u least (entry_steps l.land) (λ n y. EnteredAt w l leader x s rest s.pc n y × (reg y CURSOR ≡ with_count off number)) → number ≡ 2047 - count → count ≤ room
           → count + l.most s.pc ≤ room + owed l s.pc → Passed
       entered least count number g same most sum = record {
         steps = g.steps;
@@ -241,7 +241,7 @@ module _ (w : World) (l : Lean) (leader : ℕ → Bool) (x : LeanIn w l leader) 
         sum = sum;
         walk = g.walk;
         at = g.is.0.0;
-        fifteen = g.is.1 ∙ ap (counted off) same;
+        fifteen = g.is.1 ∙ ap (with_count off) same;
         sixteen = (ticked_of l.every w g.to s.pc g.is.0.1).sign;
       }
 
@@ -316,7 +316,7 @@ module _ (w : World) (l : Lean) (leader : ℕ → Bool) (x : LeanIn w l leader) 
     abbrev pub calling : ℕ
     calling = entry_steps l.land + call_steps l.land
 
-    -- the same from a later entry
+    -- to the check or the end, from a later entry
     abbrev Rest : ℕ → ℕ → Type 0
     Rest fuel off = (y t : State) (n : ℕ) → Begins y t n off → suc (ahead t n) ≤ fuel → Feeds w y t (ahead t n + 1) → Called y t off (ahead t n + calling) ⊎ Finished y (ahead t n)
 

@@ -17,7 +17,7 @@ use Rattle.weave_core.specs.WeaveLaws.{GoesTo, Stands, Visits}
 use Rattle.weave_core.proofs.Lemmas.{own_pair, guards_pass, visit_more, addi_value, add_result, sub_result, tabled, word, table_word, table_load, find, found, entry_leap, halved_regs, halved_moved, Sets, writes, writes_long, writes_out, halved_writes, sets_on, sets_compute, sets_equal, visit_row, visit_later, words_within, word_low, all_small, compare_stands}
 use Rattle.lockstep.proofs.Lemmas.{word_below}
 use Rattle.qed_model.specs.Promise.Changed.{IsDataWord}
-use Rattle.lean.specs.Ticked.{counted}
+use Rattle.lean.specs.Ticked.{with_count}
 use Rattle.lean.proofs.Weave.Chain.{Op, plain, constant, effects, Gives, read_back, all_temps, chain}
 use Rattle.lean.proofs.Weave.Sign.{distance_set}
 use Rattle.lean.proofs.Weave.Turn.{lui_value}
@@ -150,7 +150,7 @@ offset_near w (r ∷ rs) n off good low small few c =
       low_word (inr h) = let k = word_low rs (r.1 + 1) (words_on (r ∷ rs) n (r.0 + off)) good.1 h in omega (arith, k, good.0.some)
 
 -- ---- all of it
--- back at the entry of a, where the count begins again and the offset is at the next word; all registers were compared, and a round of words was visited
+-- back at the entry of a, with a new count and the next word's offset; all registers were compared, a round was visited
 pub record Back (w : World) (leader : ℕ → Bool) (u t : State) (a off every round : ℕ) : Type 0 where
   pub steps : ℕ
   pub to : State
@@ -161,7 +161,7 @@ pub record Back (w : World) (leader : ℕ → Bool) (u t : State) (a off every r
   pub next : ℕ
   pub few : next < 2 ^ 32
   pub word : first_word w.base w.form.spans + next ≡ words_on w.form.spans round (first_word w.base w.form.spans + off)
-  pub counter : reg to CURSOR ≡ counted next (2047 - every)
+  pub counter : reg to CURSOR ≡ with_count next (2047 - every)
   pub sign : reg to SIGNATURE ≡ a
   pub compares : ComparesFrom w.code (run u 3).pc originals
   pub visits : (j : ℕ) → j < round → 1 ≤ length w.form.spans → Visits w u steps (words_on w.form.spans j (first_word w.base w.form.spans + off))
@@ -174,13 +174,13 @@ module _ (w : World) (leader : ℕ → Bool) (small : w.distance ≤ 2 ^ 32) (u 
   abbrev begin_ops : List Op
   begin_ops = plain (ins Srli CURSOR CURSOR 0 (pos 12)) off ∷ constant 30 first ∷ plain (ins Add CURSOR CURSOR TEMPORARY (pos 0)) (first + off) ∷ []
 
-  begin_gives : (x : State) → length x.regs ≡ 32 → reg x CURSOR ≡ counted off count → count < 4096 → off < 2 ^ 32 → first + 2 ^ 32 ≤ 2 ^ 64 → Gives x x.regs begin_ops
+  begin_gives : (x : State) → length x.regs ≡ 32 → reg x CURSOR ≡ with_count off count → count < 4096 → off < 2 ^ 32 → first + 2 ^ 32 ≤ 2 ^ 64 → Gives x x.regs begin_ops
   begin_gives x long at15 below few low =
       let l = x.regs in
       let e2 : List (ℕ × ℕ) = (15, off) ∷ (30, first) ∷ [] in (
         refl,
         λ e. absurd (cc),
-        λ p. srli_value (moved l p x) 15 15 (counted off count) off at15 (omega (arith, below)),
+        λ p. srli_value (moved l p x) 15 15 (with_count off count) off at15 (omega (arith, below)),
         (
           omega (arith, low),
           omega arith,
@@ -197,7 +197,7 @@ module _ (w : World) (leader : ℕ → Bool) (small : w.distance ≤ 2 ^ 32) (u 
   -- ---- behind the visits
   abbrev done_ops : ℕ → List Op
   done_ops c =
-      constant 30 first ∷ plain (ins Sub CURSOR CURSOR TEMPORARY (pos 0)) (c - first) ∷ plain (ins Slli CURSOR CURSOR 0 (pos 12)) ((c - first) * 2 ^ 12) ∷ plain (ins Addi CURSOR CURSOR 0 (pos (2047 - every))) (counted (c - first) (2047 - every)) ∷ []
+      constant 30 first ∷ plain (ins Sub CURSOR CURSOR TEMPORARY (pos 0)) (c - first) ∷ plain (ins Slli CURSOR CURSOR 0 (pos 12)) ((c - first) * 2 ^ 12) ∷ plain (ins Addi CURSOR CURSOR 0 (pos (2047 - every))) (with_count (c - first) (2047 - every)) ∷ []
 
   done_gives : (x : State) (c : ℕ) → length x.regs ≡ 32 → reg x CURSOR ≡ c → first ≤ c → c < first + 2 ^ 32 → first + 2 ^ 32 ≤ 2 ^ 64 → Gives x x.regs (done_ops c)
   done_gives x c long at15 above near low =
@@ -220,13 +220,13 @@ module _ (w : World) (leader : ℕ → Bool) (small : w.distance ≤ 2 ^ 32) (u 
             (
               refl,
               λ e. absurd (cc),
-              λ p. addi_value (moved (writes e3 l) p x) 15 15 (k * 2 ^ 12) (counted k (2047 - every)) (pos (2047 - every)) (read_back e3 l 15 long refl) (sums k (c - first) refl (omega (arith, above, near))),
+              λ p. addi_value (moved (writes e3 l) p x) 15 15 (k * 2 ^ 12) (with_count k (2047 - every)) (pos (2047 - every)) (read_back e3 l 15 long refl) (sums k (c - first) refl (omega (arith, above, near))),
               tt,
             ),
           ),
         ),
       ) where
-        sums : (k n : ℕ) → k ≡ n → n < 2 ^ 32 → (k * 2 ^ 12 + (2047 - every) % 2 ^ 64) % 2 ^ 64 ≡ counted k (2047 - every)
+        sums : (k n : ℕ) → k ≡ n → n < 2 ^ 32 → (k * 2 ^ 12 + (2047 - every) % 2 ^ 64) % 2 ^ 64 ≡ with_count k (2047 - every)
         sums k n e h = omega (arith, e, h)
 
   -- ---- from the first word to behind the comparison
@@ -273,7 +273,7 @@ module _ (w : World) (leader : ℕ → Bool) (small : w.distance ≤ 2 ^ 32) (u 
     visits : (j : ℕ) → j < round → 1 ≤ length w.form.spans → Visits w x steps (words_on w.form.spans j (first + off))
 
   middle_row :
-      (x : State) (rest : List Item) → At w x (begun first ++ (visit round w.form.spans ++ rest)) t t → reg x CURSOR ≡ counted off count → count < 4096 → reg x SIGNATURE ≡ a → off < 2 ^ 32 → IsCursor w.form.spans (first + off)
+      (x : State) (rest : List Item) → At w x (begun first ++ (visit round w.form.spans ++ rest)) t t → reg x CURSOR ≡ with_count off count → count < 4096 → reg x SIGNATURE ≡ a → off < 2 ^ 32 → IsCursor w.form.spans (first + off)
       → first + 2 ^ 32 ≤ 2 ^ 64 → Middle x rest
   middle_row x rest at at15 below at16 few cur room =
       let long = at.halved.output.regs in
@@ -302,7 +302,7 @@ module _ (w : World) (leader : ℕ → Bool) (small : w.distance ≤ 2 ^ 32) (u 
     within : steps ≤ 16
     walk : Walk (Quiet w) x steps to
     stands : Stands w leader to t
-    counter : reg to CURSOR ≡ counted (c - first) (2047 - every)
+    counter : reg to CURSOR ≡ with_count (c - first) (2047 - every)
     sign : reg to SIGNATURE ≡ a
 
   last_row :
@@ -333,7 +333,7 @@ module _ (w : World) (leader : ℕ → Bool) (small : w.distance ≤ 2 ^ 32) (u 
   -- ---- all of it
   pub check_row :
       Over w.code u → Twice w u t t → Reads w.form.far w.code w.entry u.pc (check w.base w.distance every round w.form.spans) → t.pc ≡ a → off < 2 ^ 32 → IsCursor w.form.spans (first + off)
-      → reg u CURSOR ≡ counted off count → count < 4096 → reg u SIGNATURE ≡ a → reg u TEMPORARY ≡ a → Back w leader u t a off every round
+      → reg u CURSOR ≡ with_count off count → count < 4096 → reg u SIGNATURE ≡ a → reg u TEMPORARY ≡ a → Back w leader u t a off every round
   check_row o h r here few cur at15 below sign named =
       let room = first_low w.form.spans w.spans_low w.spans_good in
       let last = look_up SIGNATURE ++ look_again w.distance in
@@ -346,7 +346,7 @@ module _ (w : World) (leader : ℕ → Bool) (small : w.distance ≤ 2 ^ 32) (u 
         joined :
             (x : State) (m : ℕ) (y : State) (n : ℕ) (z : State) → Walk (Quiet w) u 16 x → Walk (Quiet w) x m y → Walk (Quiet w) y n z
             → m ≤ 4 + visit_bound (word_count w.form.spans) (length w.form.spans) * round → n ≤ 16 → first ≤ words_on w.form.spans round (first + off)
-            → words_on w.form.spans round (first + off) < first + 2 ^ 32 → Stands w leader z t → reg z CURSOR ≡ counted (words_on w.form.spans round (first + off) - first) (2047 - every)
+            → words_on w.form.spans round (first + off) < first + 2 ^ 32 → Stands w leader z t → reg z CURSOR ≡ with_count (words_on w.form.spans round (first + off) - first) (2047 - every)
             → reg z SIGNATURE ≡ a → ComparesFrom w.code (run u 3).pc originals
             → ((j : ℕ) → j < round → 1 ≤ length w.form.spans → Visits w x m (words_on w.form.spans j (first + off))) → Back w leader u t a off every round
         joined x m y n z a1 a2 a3 few1 few2 above near st counter sign cmp vs = record {

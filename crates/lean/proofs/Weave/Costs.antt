@@ -159,7 +159,7 @@ pub end_most : (e : End) (leader : ℕ → Bool) (a at : ℕ) → IsEnd e → le
 end_most Falls leader a at h = falls_cost leader a at
 end_most (Stops i) leader a at h = stop_cost (class_of i.kind) leader i a at h
 
--- and of what stands at the end of a block
+-- what stands at the end of a block is an end
 leaving : (c : Class) (w : World) (leader : ℕ → Bool) (i : Ins) (at : ℕ) → Leaves c w leader i at → is_end c ≡ true
 leaving class.End w leader i at g = refl
 leaving class.Illegal w leader i at g = refl

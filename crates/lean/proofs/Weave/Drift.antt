@@ -1,4 +1,4 @@
--- Words that keep the signature and go on to the next word, or over it: from any of them, in any state, the run comes to what stands behind them, or is over.
+-- Words that keep the signature and go on, or skip a word: from any of them the run gets behind them all, or is over.
 use Rattle.std.proofs.Common.{◌≡◌, ℕ, zero, suc, ◌+◌, ◌*◌, ◌%◌, ◌^◌, ◌≤◌, ◌⊎◌, inl, inr, ⊎_elim, Bool, true, false, cond, not, List, [], ◌∷◌, ◌++◌, length, refl, sym, ap, ◌∙◌, subst, arith}
 use Rattle.std.specs.Prelude.{◌==◌, pos, slice_index}
 use Rattle.std.specs.List.{list_all}
@@ -253,27 +253,27 @@ comes_on P Q u m n c f =
 
 module _ (w : World) where
   -- a state that goes on, over the code, with a signature
-  pub record Astray (x : ℕ) (u : State) : Type 0 where
+  pub record Drifting (x : ℕ) (u : State) : Type 0 where
     pub going : u.outcome ≡ Going
     pub standing : Standing w.code w.output u
     pub sign : reg u SIGNATURE ≡ x
 
   -- before such words
   abbrev pub Before : ℕ → List Item → State → Type 0
-  Before sign xs y = Astray sign y × Reads false w.code w.entry y.pc xs
+  Before sign xs y = Drifting sign y × Reads false w.code w.entry y.pc xs
 
-  pub over_of : (sign : ℕ) (u : State) → Astray sign u → Over w.code u
+  pub over_of : (sign : ℕ) (u : State) → Drifting sign u → Over w.code u
   over_of sign u a = record { going = a.going; code = a.standing.code }
 
   -- ---- one word
   -- to other registers, at a pc
   goes_to :
-      (sign : ℕ) (u : State) (i : Ins) (regs : List ℕ) → Astray sign u → w.code u.pc ≡ Known i → step u ≡ moved regs (next_pc u) u → slice_index regs 16 ≡ reg u SIGNATURE
-      → Astray sign (step u) × ((step u).pc ≡ u.pc + 4)
+      (sign : ℕ) (u : State) (i : Ins) (regs : List ℕ) → Drifting sign u → w.code u.pc ≡ Known i → step u ≡ moved regs (next_pc u) u → slice_index regs 16 ≡ reg u SIGNATURE
+      → Drifting sign (step u) × ((step u).pc ≡ u.pc + 4)
   goes_to sign u i regs a h e same =
       (record { going = ap (λ s. s.outcome) e ∙ a.going; standing = standing_step w.code w.output w.output_fixed u a.standing; sign = ap (λ s. reg s SIGNATURE) e ∙ same ∙ a.sign }, ap (λ s. s.pc) e ∙ pc_four w u i h)
 
-  word_step : (sign : ℕ) (u : State) (i : Ins) → Astray sign u → w.code u.pc ≡ Known i → drifts i ≡ true → IsOver (step u).outcome ⊎ (Astray sign (step u) × ((step u).pc ≡ u.pc + 4))
+  word_step : (sign : ℕ) (u : State) (i : Ins) → Drifting sign u → w.code u.pc ≡ Known i → drifts i ≡ true → IsOver (step u).outcome ⊎ (Drifting sign (step u) × ((step u).pc ≡ u.pc + 4))
   unfolding execute
   word_step sign u i a h d = by (class_of i.kind) refl d where
     known : next u ≡ Known i
@@ -285,15 +285,15 @@ module _ (w : World) where
     apart : is_other i.rd ≡ true → 16 ≡ i.rd → ⊥
     apart n e = false≢true (subst (λ r. is_other r ≡ true) (sym e) n)
 
-    loads : (b : Bool) (v : ℕ) (c : Cause) → (16 ≡ i.rd → ⊥) → step u ≡ cond b (moved (set_reg i.rd v u.regs) (next_pc u) u) (trapped c u) → IsOver (step u).outcome ⊎ (Astray sign (step u) × ((step u).pc ≡ u.pc + 4))
+    loads : (b : Bool) (v : ℕ) (c : Cause) → (16 ≡ i.rd → ⊥) → step u ≡ cond b (moved (set_reg i.rd v u.regs) (next_pc u) u) (trapped c u) → IsOver (step u).outcome ⊎ (Drifting sign (step u) × ((step u).pc ≡ u.pc + 4))
     loads true v c ne e = inr (goes_to sign u i (set_reg i.rd v u.regs) a h e (slice_index-set_reg_other u.regs i.rd v 16 ne))
     loads false v c ne e = inl (inr (ap (λ s. is_trapped s.outcome) e))
 
-    stores : (b : Bool) (n v : ℕ) (c : Cause) → step u ≡ cond b (stored (put u.memory (place i u) n v) (next_pc u) u) (trapped c u) → IsOver (step u).outcome ⊎ (Astray sign (step u) × ((step u).pc ≡ u.pc + 4))
+    stores : (b : Bool) (n v : ℕ) (c : Cause) → step u ≡ cond b (stored (put u.memory (place i u) n v) (next_pc u) u) (trapped c u) → IsOver (step u).outcome ⊎ (Drifting sign (step u) × ((step u).pc ≡ u.pc + 4))
     stores true n v c e = inr (record { going = ap (λ s. s.outcome) e ∙ a.going; standing = standing_step w.code w.output w.output_fixed u a.standing; sign = ap (λ s. reg s SIGNATURE) e ∙ a.sign }, ap (λ s. s.pc) e ∙ pc_four w u i h)
     stores false n v c e = inl (inr (ap (λ s. is_trapped s.outcome) e))
 
-    by : (k : Class) → class_of i.kind ≡ k → drifts_as k i ≡ true → IsOver (step u).outcome ⊎ (Astray sign (step u) × ((step u).pc ≡ u.pc + 4))
+    by : (k : Class) → class_of i.kind ≡ k → drifts_as k i ≡ true → IsOver (step u).outcome ⊎ (Drifting sign (step u) × ((step u).pc ≡ u.pc + 4))
     by class.Compute e d = inr (goes_to sign u i (set_reg i.rd (result i.kind i u) u.regs) a h (does class.Compute e) (slice_index-set_reg_other u.regs i.rd (result i.kind i u) 16 (apart d)))
     by class.Load e d = loads (grants (λ f. f.read) u.memory (place i u) (width_of i.kind)) (loaded i.kind (number u.memory (place i u) (width_of i.kind))) (cause.Load (place i u)) (apart d) (does class.Load e)
     by class.Store e d = stores (grants (λ f. f.write) u.memory (place i u) (width_of i.kind)) (width_of i.kind) (reg u i.rs2) (cause.Store (place i u)) (does class.Store e)
@@ -304,11 +304,11 @@ module _ (w : World) where
   -- ---- several
   -- from the begin of such words
   abbrev Good : List Item → Type 0
-  Good xs = (x : ℕ) (u : State) (rest : List Item) → Astray x u → Reads false w.code w.entry u.pc (xs ++ rest) → Comes (Before x rest) u (cost xs)
+  Good xs = (x : ℕ) (u : State) (rest : List Item) → Drifting x u → Reads false w.code w.entry u.pc (xs ++ rest) → Comes (Before x rest) u (cost xs)
 
   -- a word goes on to the next, or is over
   on_word :
-      (x : ℕ) (u : State) (i : Ins) (xs rest : List Item) → Astray x u → Reads false w.code w.entry u.pc (Plain i ∷ xs ++ rest) → drifts i ≡ true → Good xs
+      (x : ℕ) (u : State) (i : Ins) (xs rest : List Item) → Drifting x u → Reads false w.code w.entry u.pc (Plain i ∷ xs ++ rest) → drifts i ≡ true → Good xs
       → Comes (Before x rest) u (cond (is_break i.kind) 0 1 + cost xs)
   unfolding execute
   on_word x u i xs rest a r d good = by (is_break i.kind) refl where
@@ -335,7 +335,7 @@ module _ (w : World) where
 
   -- a branch over a word goes on to it, or behind it
   on_skip :
-      (x : ℕ) (u : State) (i : Ins) (xs rest : List Item) → Astray x u → Reads false w.code w.entry u.pc (Plain i ∷ xs ++ rest) → Skips i xs → Good xs → Good (behind xs)
+      (x : ℕ) (u : State) (i : Ins) (xs rest : List Item) → Drifting x u → Reads false w.code w.entry u.pc (Plain i ∷ xs ++ rest) → Skips i xs → Good xs → Good (behind xs)
       → Comes (Before x rest) u (cond (is_break i.kind) 0 1 + cost xs)
   unfolding execute jumped
   on_skip x u i xs rest a r s good far =
@@ -344,7 +344,7 @@ module _ (w : World) where
       (comes_on (λ y. Before x (xs ++ rest) y ⊎ Before x (behind xs ++ rest) y) (Before x rest) u 1 (cost xs)
       (comes_one _ u (inr (by (holds i.kind (reg u i.rs1) (reg u i.rs2)) (step-class u i class.Branch a.going (known_at w.code u i (over_of x u a) r.0) s.0))))
       (λ y b. ⊎_elim (λ h. good x y rest h.0 h.1) (λ h. comes_more (Before x rest) y (cost (behind xs)) (cost xs) (cost_behind xs) (far x y rest h.0 h.1)) b)) where
-        there : (p : ℕ) → step u ≡ moved u.regs p u → Astray x (step u) × ((step u).pc ≡ p)
+        there : (p : ℕ) → step u ≡ moved u.regs p u → Drifting x (step u) × ((step u).pc ≡ p)
         there p e = (record { going = ap (λ z. z.outcome) e ∙ a.going; standing = standing_step w.code w.output w.output_fixed u a.standing; sign = ap (λ z. reg z SIGNATURE) e ∙ a.sign }, ap (λ z. z.pc) e)
 
         goal : (u.pc + imm i) % 2 ^ 64 ≡ u.pc + 4 + 4
@@ -365,13 +365,13 @@ module _ (w : World) where
   abbrev second : ℕ → ℕ → ℕ → Ins
   second p r v = ins Addi r r 0 (lower_part (distance_between p v))
 
-  on_second : (x p : ℕ) (u : State) (r v : ℕ) (xs rest : List Item) → Astray x u → is_other r ≡ true → w.code u.pc ≡ Known (second p r v) → Reads false w.code w.entry (u.pc + 4) (xs ++ rest) → Good xs → Comes (Before x rest) u (1 + cost xs)
+  on_second : (x p : ℕ) (u : State) (r v : ℕ) (xs rest : List Item) → Drifting x u → is_other r ≡ true → w.code u.pc ≡ Known (second p r v) → Reads false w.code w.entry (u.pc + 4) (xs ++ rest) → Good xs → Comes (Before x rest) u (1 + cost xs)
   on_second x p u r v xs rest a ne h more good = on_word x u (second p r v) xs rest a (h, more) ne good
 
-  on_constant : (x : ℕ) (u : State) (r v : ℕ) (xs rest : List Item) → Astray x u → Reads false w.code w.entry u.pc (Constant r v ∷ xs ++ rest) → is_other r ≡ true → Good xs → Comes (Before x rest) u (2 + cost xs)
+  on_constant : (x : ℕ) (u : State) (r v : ℕ) (xs rest : List Item) → Drifting x u → Reads false w.code w.entry u.pc (Constant r v ∷ xs ++ rest) → is_other r ≡ true → Good xs → Comes (Before x rest) u (2 + cost xs)
   on_constant x u r v xs rest a h ne good =
       let i = ins Auipc r 0 0 (upper_part (distance_between u.pc v)) in
-      let P : State → Type 0 = λ y. Astray x y × (y.pc ≡ u.pc + 4) in
+      let P : State → Type 0 = λ y. Drifting x y × (y.pc ≡ u.pc + 4) in
       comes_more (Before x rest) u (1 + (1 + cost xs)) (2 + cost xs) (omega arith)
       (comes_on P (Before x rest) u 1 (1 + cost xs) (comes_one P u (word_step x u i a h.0 ne))
       (λ y b.
@@ -391,12 +391,12 @@ module _ (w : World) where
   both (Go t ∷ xs) d = absurd d
 
   -- ---- the law
-  pub drift : (xs : List Item) → Drifts xs → (x : ℕ) (u : State) (rest : List Item) → Astray x u → Reads false w.code w.entry u.pc (xs ++ rest) → Comes (Before x rest) u (cost xs)
+  pub drift : (xs : List Item) → Drifts xs → (x : ℕ) (u : State) (rest : List Item) → Drifting x u → Reads false w.code w.entry u.pc (xs ++ rest) → Comes (Before x rest) u (cost xs)
   drift xs d = (both xs d).0
 
   -- from any word of them, or behind them
   pub drift_from :
-      (xs : List Item) → Drifts xs → (k p x : ℕ) (u : State) (rest : List Item) → 4 * k ≤ sum_of_sizes false xs → Astray x u → u.pc ≡ p + 4 * k → Reads false w.code w.entry p (xs ++ rest)
+      (xs : List Item) → Drifts xs → (k p x : ℕ) (u : State) (rest : List Item) → 4 * k ≤ sum_of_sizes false xs → Drifting x u → u.pc ≡ p + 4 * k → Reads false w.code w.entry p (xs ++ rest)
       → Comes (Before x rest) u (cost xs)
   drift_from xs d zero p x u rest h a at r = drift xs d x u rest a (subst (λ q. Reads false w.code w.entry q (xs ++ rest)) (let e : p ≡ u.pc = omega (arith, at) in e) r)
   drift_from [] d (suc k) p x u rest h a at r = absurd (omega (arith, h))

@@ -1,4 +1,4 @@
--- The leave of an ECALL: all registers, the distance and the signature are compared, with the sweep all data words and once more all registers, and the test ends.
+-- The leave of an ECALL: compares registers, distance and signature, with the sweep all data and registers again; ends.
 use Rattle.std.proofs.Common.{◌≡◌, ℕ, ◌+◌, ◌^◌, ◌<◌, ◌≤◌, ⊎_elim, Bool, true, false, cond, List, [], ◌∷◌, ◌++◌, length, refl, sym, ap, ◌∙◌, subst, arith}
 use Rattle.std.proofs.lemmas.Bool.{false≢true}
 use Rattle.std.proofs.lemmas.List.{append-nil}
@@ -12,7 +12,7 @@ use Rattle.weave_core.specs.World.{World, Quiet, Twice, Item, Plain, Ended, Stat
 use Rattle.weave_core.specs.Kinds.{originals}
 use Rattle.weave_core.specs.Rows.{At, Sourced}
 use Rattle.weave_core.specs.Leaving.{swept_end, sweep_cost}
-use Rattle.weave_core.specs.WeaveLaws.{GoesTo, Ends, Swept}
+use Rattle.weave_core.specs.WeaveLaws.{GoesTo, BothEnded, Swept}
 use Rattle.weave_core.proofs.Lemmas.{own_pair, guards_pass, quiet_sweep, step-end, end_walk, writes, halved_input, halved_writes, none_run, all_small}
 use Rattle.lean.specs.Woven.{swept_steps}
 use Rattle.lean.proofs.Weave.Chain.{read_back, all_temps, no_break}
@@ -46,7 +46,7 @@ swept_on w u y m n a s h =
 -- from behind the signature to the end
 end_rest :
     (w : World) (u s : State) (i : Ins) → At w u (before_end w.form ++ (Plain i ∷ [])) s s → Sourced w s → w.source s.pc ≡ Known i → class_of i.kind ≡ class.End
-    → GoesTo w u 1 (1 + swept_steps w) (λ n x. Ends w (step s) x × Sweeps w u n)
+    → GoesTo w u 1 (1 + swept_steps w) (λ n x. BothEnded w (step s) x × Sweeps w u n)
 end_rest w u s i at so h c = by w.form.sweep refl at where
   e : step s ≡ stopped Ended s
   e = step-end s i so.over.going (known_at w.source s i so.over h) c
@@ -54,7 +54,7 @@ end_rest w u s i at so h c = by w.form.sweep refl at where
   input : (step s).outcome ≡ Ended
   input = ap (λ x. x.outcome) e
 
-  by : (b : Bool) → w.form.sweep ≡ b → At w u (cond b (sweep w.form.spans ++ compare) [] ++ (Plain i ∷ [])) s s → GoesTo w u 1 (1 + swept_steps w) (λ n x. Ends w (step s) x × Sweeps w u n)
+  by : (b : Bool) → w.form.sweep ≡ b → At w u (cond b (sweep w.form.spans ++ compare) [] ++ (Plain i ∷ [])) s s → GoesTo w u 1 (1 + swept_steps w) (λ n x. BothEnded w (step s) x × Sweeps w u n)
   by true is a =
       let a1 : At w u (swept_end w.form.spans i ++ []) s s = subst (λ l. At w u l s s) (sym (append-nil (swept_end w.form.spans i))) a in
       let x = (quiet_sweep w.form.spans i c).leads w (record { now = u; original = s; shadow = s; leads = λ t. false }) [] tt a1 (record { same = refl; spans_are = refl }) in
@@ -82,7 +82,7 @@ end_rest w u s i at so h c = by w.form.sweep refl at where
   }
 
 module _ (w : World) (u s : State) (i : Ins) (fall : ℕ → List Item) (a : ℕ) (at : At w u (leave_as w.distance (before_end w.form) fall class.End i a s.pc) s s) (so : Sourced w s) (low : a < 2 ^ 64) (small : w.distance < 2 ^ 64) (sign : reg u SIGNATURE ≡ a) where
-  pub end_leave : w.source s.pc ≡ Known i → class_of i.kind ≡ class.End → GoesTo w u 1 (cost (leave_as 0 [] fall class.End i a s.pc) + swept_steps w) (λ n x. Ends w (step s) x × Sweeps w u n)
+  pub end_leave : w.source s.pc ≡ Known i → class_of i.kind ≡ class.End → GoesTo w u 1 (cost (leave_as 0 [] fall class.End i a s.pc) + swept_steps w) (λ n x. BothEnded w (step s) x × Sweeps w u n)
   end_leave h c =
       let t = at.halved in
       let last = before_end w.form ++ (Plain i ∷ []) in

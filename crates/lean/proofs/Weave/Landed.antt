@@ -13,7 +13,7 @@ use Rattle.weave_core.specs.WeaveForms.{weave_with}
 use Rattle.weave_core.specs.WeaveLaws.{Guarded}
 use Rattle.weave_core.specs.World.{World, Item, Program}
 use Rattle.weave_core.proofs.Lemmas.{WeaveIn, form_guarded, landed}
-use Rattle.lean.specs.Woven.{LeanPlan, LeanLanded, weave_of, check_steps, start_of}
+use Rattle.lean.specs.Woven.{LeanPlan, LeanLanded, lean_weave_of, check_steps, lean_start_of}
 use Rattle.lean.proofs.Weave.Promise.{stage_is, woven}
 
 module _ (f g : Program) (w : World) (l : Lean) (blocks : List Block) (p : LeanPlan f g w l blocks) (land : l.land ≡ true) where
@@ -21,7 +21,7 @@ module _ (f g : Program) (w : World) (l : Lean) (blocks : List Block) (p : LeanP
   leader a = begins_at blocks a
 
   abbrev pub v : Weave
-  v = weave_of w l leader
+  v = lean_weave_of w l leader
 
   pub in_it : WeaveIn f g w v leader
   in_it = woven f g w l blocks p
@@ -51,5 +51,5 @@ module _ (f g : Program) (w : World) (l : Lean) (blocks : List Block) (p : LeanP
 
 pub lean_landed : LeanLanded
 lean_landed f g w l blocks entries p land known =
-    subst (λ n. LandedInStep 4 f g w.reached entries (start_of w) n) (stage_is l (check_steps w) (cost_of l.diverse * l.inst_max))
-    (landed f g w (weave_of w l (begins_at blocks)) (begins_at blocks) entries (in_it f g w l blocks p land) (guarded f g w l blocks p land) known)
+    subst (λ n. LandedInStep 4 f g w.reached entries (lean_start_of w) n) (stage_is l (check_steps w) (cost_of l.diverse * l.inst_max))
+    (landed f g w (lean_weave_of w l (begins_at blocks)) (begins_at blocks) entries (in_it f g w l blocks p land) (guarded f g w l blocks p land) known)

@@ -19,7 +19,7 @@ use Rattle.weave_core.specs.Lock.{Opens}
 use Rattle.weave_core.specs.Kinds.{opens}
 use Rattle.weave_core.specs.KindItems.{LockItems, LandItems, Straight, AllLand, OpenEntries, AllPieces, GoodEnd, AllBlocks}
 use Rattle.weave_core.proofs.Lemmas.{brk, instructions_then, reads_words, stub_opens, items_then, items_none, items_go, original_items, opens_behind, all_land_append, has_rest, over_words, straight_none, straight_then, straight_lands, straight_guards, land_behind, land_go, land_then, straight_bare, store_items, store_lands, guarded_original, used_low, mirrors_fit_of}
-use Rattle.weave_core.specs.Parts.{bare}
+use Rattle.weave_core.specs.Parts.{unguarded}
 use Rattle.lockstep.proofs.Lemmas.{stub_words, reads_rest}
 use Rattle.lean.proofs.Weave.Piece.{store_class}
 use Rattle.lean.proofs.Weave.Words.{tick_items, sign_lands, enter_items, leave_items, leave_lands}
@@ -34,7 +34,7 @@ straight_each part h [] at f = straight_none false
 straight_each part h (i ∷ is) at f = straight_then false (part i at) (each_part part is (at + 4)) (h i at f.0) (straight_each part h is (at + 4) f.1)
 
 straight_original : (i : Ins) (at : ℕ) → FitsPiece i → Straight false (original i at)
-straight_original i at f = subst (Straight false) (guarded_original i at) (straight_then false (guards (used i)) (bare i at) (straight_guards false (used i) (used_low i f)) (straight_bare false i at f))
+straight_original i at f = subst (Straight false) (guarded_original i at) (straight_then false (guards (used i)) (unguarded i at) (straight_guards false (used i) (used_low i f)) (straight_bare false i at f))
 
 -- without a store
 module _ (diverse : Bool) where

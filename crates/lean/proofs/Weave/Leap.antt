@@ -1,4 +1,4 @@
--- The leave of a JALR: the pair turns the signature, the guarded original is looked up in the table, and so is the signature.
+-- The leave of a JALR: the pair turns the signature; the guarded original is looked up, and so is the signature.
 use Rattle.std.proofs.Common.{◌≡◌, ℕ, zero, suc, ◌+◌, ◌-◌, ◌*◌, ◌/◌, ◌%◌, ◌^◌, ◌<◌, ◌≤◌, inl, inr, ⊎_elim, Bool, true, List, [], ◌∷◌, ◌++◌, length, refl, sym, ap, ◌∙◌, subst, arith}
 use Rattle.std.specs.Prelude.{pos, neg_ℤ, slice_index}
 use Rattle.rv_isa.specs.declared.class.Class.TheVariants as class
@@ -70,8 +70,7 @@ module _ (i : Ins) (a sign value : ℕ) where
       let l = u.regs in
       let e2 = aimed_at in
       let e4 : List (ℕ × ℕ) = (30, sum) ∷ (30, goal) ∷ (16, v1) ∷ (30, a) ∷ [] in
-      aim_gives u (pair i.rs1) sign_ops long is
-      (
+      aim_gives u (pair i.rs1) sign_ops long is (
         refl,
         λ e. absurd (cc),
         λ p. add_result (moved (writes e2 l) p u) 16 16 30 sign goal v1 (read_back e2 l 16 long refl ∙ at) (read_back e2 l 30 long refl) refl,

@@ -15,10 +15,10 @@ use Rattle.weave_core.specs.World.{World, State, reg, Known, run, step, target, 
 use Rattle.weave_core.specs.Blocks.{IsEntryOf, Leaves, EndStands}
 use Rattle.weave_core.specs.Rows.{At, Sourced}
 use Rattle.weave_core.specs.Weave.{Weave}
-use Rattle.weave_core.specs.WeaveLaws.{Ends, GoesTo, stops, Onward, lands, is_lost, Left, Rows}
+use Rattle.weave_core.specs.WeaveLaws.{BothEnded, GoesTo, stops, Onward, lands, is_lost, Left, Rows}
 use Rattle.weave_core.proofs.Lemmas.{aim, leap_step, branch_step, branch_to, jump_step, step-illegal}
 use Rattle.lean.specs.Ticked.{is_ticked_at}
-use Rattle.lean.specs.Woven.{weave_of, LeanIn, swept_steps, may_lead}
+use Rattle.lean.specs.Woven.{lean_weave_of, LeanIn, swept_steps, may_lead}
 use Rattle.lean.proofs.Weave.Costs.{leave_most}
 use Rattle.lean.proofs.Weave.Rows.{enter_law, inside_law, piece_law}
 use Rattle.lean.proofs.Weave.End.{end_leave, Sweeps}
@@ -28,11 +28,11 @@ use Rattle.lean.proofs.Weave.Leave.{Went, SignedAs, falls_row, jump_leave, branc
 
 module _ (w : World) (l : Lean) (leader : ℕ → Bool) (x : LeanIn w l leader) (entries : (a : ℕ) → leader a ≡ true → IsEntryOf w a) where
   abbrev v : Weave
-  v = weave_of w l leader
+  v = lean_weave_of w l leader
 
-  -- where a leave leads, in at most so many steps
+  -- where a leave leads, in at most `most` steps
   abbrev pub Parts : State → State → ℕ → ℕ → (ℕ → Bool) → Type 0
-  Parts u t least most on = GoesTo w u 1 (most + swept_steps w) (λ n y. Ends w t y × Sweeps w u n) ⊎ Went w leader u t least most × (on t.pc ≡ true)
+  Parts u t least most on = GoesTo w u 1 (most + swept_steps w) (λ n y. BothEnded w t y × Sweeps w u n) ⊎ Went w leader u t least most × (on t.pc ≡ true)
 
   -- the halves are near
   near_halves : w.distance < 2 ^ 64
@@ -99,7 +99,7 @@ module _ (w : World) (l : Lean) (leader : ℕ → Bool) (x : LeanIn w l leader) 
     by false h = omega (arith, h)
 
   -- the lean form meets the laws of the rows
-  pub lean_rows : Rows w (weave_of w l leader) leader
+  pub lean_rows : Rows w (lean_weave_of w l leader) leader
   lean_rows = record {
     short = short_law;
     known = λ a b. x.known a (and_parts _ _ b.good.own).1;

@@ -14,7 +14,6 @@ use Rattle.qed_model.specs.Weave.Placed.{sum_of_sizes}
 use Rattle.qed_model.specs.Weave.Sequences.{Form, End, Falls, Stops, fired_check, guard, check_sign, compare, visit, sweep, before_end, links, zero_from, LAST_ORIGINAL, ORIGINALS, DISTANCE, CURSOR, SIGNATURE, TEMPORARY, SPARE, pair}
 use Rattle.qed_model.specs.Weave.Lean.{is_short, turn_by, turn, goes, check_distance, look_up, look_again, first_word, called, begun, done, check, guard_address, guard_value, mirrored_store, opposite, check_way, taken, take_target, leave, leave_as, begin, named, tick, enter}
 use Rattle.qed_model.specs.Weave.LeanCode.{store_part}
-use Rattle.rv_isa.proofs.OperationLaws.{pair-lt}
 use Rattle.qed_model.proofs.Lemmas.{is_within, near_constant, has_word, is_some-some_if, lui_word, addi_word, pair_reg, add_word, mirror_store_word, branch_word, branch_imm, jump_imm, leap_imm}
 use Rattle.weave_core.proofs.Lemmas.{down, up, both_all, if_all, near, IsNear, KnownEnd, IsKnownEnd, InImage}
 use Rattle.weave_core.proofs.TestWords.{Known}
@@ -307,7 +306,7 @@ module _ (at base d : ℕ) (at_is : at ≡ base + 3 * d) (top : base + 3 * d + 1
         let tested : List Item = check_distance d ++ guarded in
         let away : List Item = Constant TEMPORARY a ∷ Plain (ins Sub SIGNATURE SIGNATURE TEMPORARY (pos 0)) ∷ tested in
         let signed : List Item = Plain (ins Add SIGNATURE SIGNATURE TEMPORARY (pos 0)) ∷ away in
-        plain (ins Addi TEMPORARY (pair i.rs1) 0 i.imm) (even ++ signed) (addi_word 30 (pair i.rs1) i.imm (omega arith) (pair-lt i.rs1 k.low.1) z)
+        plain (ins Addi TEMPORARY (pair i.rs1) 0 i.imm) (even ++ signed) (addi_word 30 (pair i.rs1) i.imm (omega arith) (ltb-true (pair i.rs1) 32 (pair_reg i.rs1 k.low.1)) z)
         (both_all near_code even signed even_words
         (plain (ins Add SIGNATURE SIGNATURE TEMPORARY (pos 0)) away sum_word
         (sets 30 a (Plain (ins Sub SIGNATURE SIGNATURE TEMPORARY (pos 0)) ∷ tested) (omega arith) (place a low high)

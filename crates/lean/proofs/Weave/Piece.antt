@@ -1,4 +1,4 @@
--- A piece: runs of instructions that do not store, of each its original parts and then its mirror parts, and stores in both halves between them.
+-- A piece: runs of instructions that do not store, original parts before mirror parts, and stores in both halves.
 use Rattle.std.proofs.Common.{◌≡◌, ℕ, ◌+◌, ◌-◌, ◌*◌, ◌<◌, ◌≤◌, ⊎_elim, Bool, true, false, cond, List, [], ◌∷◌, ◌++◌, length, refl, sym, ap, ◌∙◌, subst, arith, append_assoc, length-append}
 use Rattle.std.specs.Prelude.{◌==◌, ◌||◌}
 use Rattle.std.proofs.lemmas.Bool.{and_parts, cases_lt, false≢true}
@@ -18,8 +18,8 @@ use Rattle.weave_core.specs.World.{World, Quiet as Calm, Item, Going, State, Kno
 use Rattle.weave_core.specs.Blocks.{FitsPiece, AllFit}
 use Rattle.weave_core.specs.Rows.{At, Sourced, Led}
 use Rattle.weave_core.specs.WeaveLaws.{GoesTo, Trail, Inside}
-use Rattle.weave_core.specs.Parts.{any, bare, NeedsMirror, GivesMirror, LeavesMirror}
-use Rattle.weave_core.specs.Pass.{Views, Quiet, same}
+use Rattle.weave_core.specs.Parts.{any, unguarded, NeedsMirror, GivesMirror, LeavesMirror}
+use Rattle.weave_core.specs.Pass.{Views, Quiet, same_state}
 use Rattle.weave_core.proofs.Lemmas.{mirrored_part, diverse_row, leads_led, quiet_each, each_same, plus, each_plus, quiet_front, front_row, never_originals, never_mirrors, for_mirrors, needs_originals, gives_originals, needs_mirrors, gives_mirrors, guarded_original, has_front, has_rest, not_trapped_le, source_run, one_run, store_row, Row, met_at, met_same, originals_trail, trail_later, trail_none, trail_on, trail_one}
 use Rattle.lean.proofs.Weave.Costs.{run_most, both_most}
 
@@ -33,7 +33,7 @@ mirror_row false w u s s' i rest f a so h calm = mirrored_part w u s s' i rest f
 quiet_mirror : (diverse : Bool) (i : Ins) (at : ℕ) → FitsPiece i → Quiet any (mirror_of diverse i at) (NeedsMirror i at) (GivesMirror i at) (LeavesMirror i at) (mirror_steps_of diverse i)
 quiet_mirror diverse i at f = record {
   leads = λ w v rest s st r.
-      leads_led w v 0 (mirror_steps_of diverse i) rest same step
+      leads_led w v 0 (mirror_steps_of diverse i) rest same_state step
       (mirror_row diverse w v.now v.original v.shadow i rest f (subst (λ p. At w v.now (mirror_of diverse i p ++ rest) v.original v.shadow) (sym r.here) st) r.sourced r.known r.calm);
 }
 
@@ -64,7 +64,7 @@ module _ (diverse : Bool) (w : World) (is : List Ins) (s : State) (fit : AllFit 
   originals_row : (u : State) (rest : List Item) → At w u (each_part original is s.pc ++ rest) s s → Half u rest
   originals_row u rest a =
       let v : Views = record { now = u; original = s; shadow = s; leads = λ a. false } in
-      let all = each_same plus (λ i at. guards (used i) ++ bare i at) original guarded_original is s.pc ∙ each_plus original is s.pc in
+      let all = each_same plus (λ i at. guards (used i) ++ unguarded i at) original guarded_original is s.pc ∙ each_plus original is s.pc in
       let st = subst (λ l. At w u (l ++ rest) s s) (sym all) a in
       let g = (quiet_front w.form is s.pc fit).leads w v rest tt st (needs_originals plus (λ a h. refl) w is (λ r. false) s.pc v fit clean (λ r e. refl) so refl has calm) in
       ⊎_elim
@@ -182,7 +182,7 @@ module _ (diverse : Bool) (w : World) where
         let f = first u s rest (ready_front w s is js (length (is ++ js)) (length is) (omega (arith, count)) r) a in
         let x = f.led.to in
         let g = q.row x t rest b.ready (subst (λ n. At w x (ys n ++ rest) t t) (sym b.pc) f.led.at) in
-        let same : run t m ≡ run s (length (is ++ js)) = sym (run-more s (length is) m) ∙ ap (run s) (sym count) in
+        let same_state : run t m ≡ run s (length (is ++ js)) = sym (run-more s (length is) m) ∙ ap (run s) (sym count) in
         record {
           led = record {
             steps = f.led.steps + g.led.steps;
@@ -190,7 +190,7 @@ module _ (diverse : Bool) (w : World) where
             at_least = omega (arith, f.led.at_least, g.led.at_least, count);
             within = omega (arith, f.led.within, g.led.within);
             walk = walk_on (Calm w) u x g.led.to f.led.steps g.led.steps f.led.walk g.led.walk;
-            at = subst (λ y. At w g.led.to rest y y) same g.led.at;
+            at = subst (λ y. At w g.led.to rest y y) same_state g.led.at;
             cursor = g.led.cursor ∙ f.led.cursor;
             sign = g.led.sign ∙ f.led.sign;
           };

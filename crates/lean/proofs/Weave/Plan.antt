@@ -17,7 +17,7 @@ use Rattle.weave_core.specs.World.{World, Item, Mark, Plain, Go, Fetched, target
 use Rattle.weave_core.specs.WeaveLaws.{BlockOf, EntryAt}
 use Rattle.weave_core.specs.WeavePromise.{AllBlocksOf}
 use Rattle.weave_core.proofs.Lemmas.{reads_front, length-instructions}
-use Rattle.lean.specs.Woven.{weave_of, goes_on, begins_with, InOrder, AreCounted, IsCounted}
+use Rattle.lean.specs.Woven.{lean_weave_of, goes_on, begins_with, InOrder, AreCounted, IsCounted}
 use Rattle.lean.proofs.Weave.Ways.{reads_behind, reads_join}
 
 -- ---- what stands behind a block
@@ -70,13 +70,13 @@ module _ (c : ℕ → Fetched) (en : ℕ → ℕ) (leader : ℕ → Bool) (d : �
 -- ---- the entries
 -- what stands at the entry of a block, whose tick counts it
 pub record BlockAt (w : World) (l : Lean) (leader : ℕ → Bool) (b : Block) : Type 0 where
-  pub reads : Reads false w.code w.entry (w.entry b.start) (block_items (weave_of w l leader).code b)
-  pub good : BlockOf w (weave_of w l leader) leader b
+  pub reads : Reads false w.code w.entry (w.entry b.start) (block_items (lean_weave_of w l leader).code b)
+  pub good : BlockOf w (lean_weave_of w l leader) leader b
   pub counts : IsCounted l leader b
 
 -- at that of a leader
 pub record Counted (w : World) (l : Lean) (leader : ℕ → Bool) (a : ℕ) : Type 0 where
-  pub entry : EntryAt w (weave_of w l leader) leader a
+  pub entry : EntryAt w (lean_weave_of w l leader) leader a
   pub counts : IsCounted l leader (record { start = a; body = entry.body; end = entry.end; reached = entry.reached })
 
 module _ (w : World) (l : Lean) (leader : ℕ → Bool) where
@@ -84,9 +84,9 @@ module _ (w : World) (l : Lean) (leader : ℕ → Bool) where
   s = worded w.form w.base w.entry l leader
 
   -- the pieces are those of the weave
-  pub pieces_same : (ps : List (List Ins)) (at : ℕ) → pieces_of s ps at ≡ pieces_of (weave_of w l leader).code ps at
+  pub pieces_same : (ps : List (List Ins)) (at : ℕ) → pieces_of s ps at ≡ pieces_of (lean_weave_of w l leader).code ps at
   pieces_same [] at = refl
-  pieces_same (p ∷ ps) at = ap (λ k. (weave_of w l leader).code.piece p at ++ k) (pieces_same ps (at + 4 * length p))
+  pieces_same (p ∷ ps) at = ap (λ k. (lean_weave_of w l leader).code.piece p at ++ k) (pieces_same ps (at + 4 * length p))
 
   -- the block behind begins with its mark
   next_marked :
@@ -102,7 +102,7 @@ module _ (w : World) (l : Lean) (leader : ℕ → Bool) where
 
   -- a block reads as its sequences
   block_entry :
-      (b : Block) (p : ℕ) (rest : List Item) → Reads false w.code w.entry p (block_items s b ++ rest) → BlockOf w (weave_of w l leader) leader b
+      (b : Block) (p : ℕ) (rest : List Item) → Reads false w.code w.entry p (block_items s b ++ rest) → BlockOf w (lean_weave_of w l leader) leader b
       → IsCounted l leader b → ((t : ℕ) → goes_on b.end (b.start + 4 * body_length b.body) t ≡ true → leader t ≡ true → Marked rest t) → BlockAt w l leader b
   block_entry b p rest r good counted next =
       let at = b.start + 4 * body_length b.body in
@@ -117,8 +117,8 @@ module _ (w : World) (l : Lean) (leader : ℕ → Bool) where
       let behind = reads_behind false w.code w.entry p (t ++ ps) (words ++ rest) whole in
       let left = swap_leave w.code w.entry leader l.distance (before_end w.form) b.end a at (p + sum_of_sizes false (t ++ ps)) rest behind next in
       let joined : Reads false w.code w.entry p (t ++ (ps ++ falls)) = subst (λ k. Reads false w.code w.entry p k) (append_assoc t ps falls) (reads_join false w.code w.entry p (t ++ ps) falls first left) in
-      let read : Reads false w.code w.entry p (t ++ (pieces_of (weave_of w l leader).code b.body b.start ++ falls)) = subst (λ k. Reads false w.code w.entry p (t ++ (k ++ falls))) (pieces_same b.body b.start) joined in
-      record { reads = (refl, subst (λ q. Reads false w.code w.entry q (t ++ (pieces_of (weave_of w l leader).code b.body b.start ++ falls))) (sym r.0) read); good = good; counts = counted }
+      let read : Reads false w.code w.entry p (t ++ (pieces_of (lean_weave_of w l leader).code b.body b.start ++ falls)) = subst (λ k. Reads false w.code w.entry p (t ++ (k ++ falls))) (pieces_same b.body b.start) joined in
+      record { reads = (refl, subst (λ q. Reads false w.code w.entry q (t ++ (pieces_of (lean_weave_of w l leader).code b.body b.start ++ falls))) (sym r.0) read); good = good; counts = counted }
 
   -- entries stand on the grain
   pub entry_grain : (bs : List Block) (p a : ℕ) (rest : List Item) → p % 4 ≡ 0 → Reads false w.code w.entry p (entries_of s bs ++ rest) → begins_at bs a ≡ true → w.entry a % 4 ≡ 0
@@ -132,7 +132,7 @@ module _ (w : World) (l : Lean) (leader : ℕ → Bool) where
       (or_cases (b.start == a) (begins_at bs a) h)
 
   pub block_of :
-      (bs : List Block) (p : ℕ) (b : Block) (rest : List Item) → Reads false w.code w.entry p (entries_of s bs ++ rest) → AllBlocksOf w (weave_of w l leader) leader bs
+      (bs : List Block) (p : ℕ) (b : Block) (rest : List Item) → Reads false w.code w.entry p (entries_of s bs ++ rest) → AllBlocksOf w (lean_weave_of w l leader) leader bs
       → AreCounted l leader bs → InOrder leader bs → Among b bs → BlockAt w l leader b
   block_of [] p b rest r good counted o m = absurd m
   block_of (c ∷ cs) p b rest r good counted o m =
@@ -145,6 +145,6 @@ module _ (w : World) (l : Lean) (leader : ℕ → Bool) where
   -- a leader begins one of them
   pub entry_of : (near : w.form.far ≡ false) (b : Block) (a : ℕ) → BlockAt w l leader b → b.start ≡ a → Counted w l leader a
   entry_of near b a k e = subst (Counted w l leader) e (record {
-    entry = record { body = b.body; end = b.end; reached = b.reached; reads = subst (λ f. Reads f w.code w.entry (w.entry b.start) (block_items (weave_of w l leader).code b)) (sym near) k.reads; good = k.good };
+    entry = record { body = b.body; end = b.end; reached = b.reached; reads = subst (λ f. Reads f w.code w.entry (w.entry b.start) (block_items (lean_weave_of w l leader).code b)) (sym near) k.reads; good = k.good };
     counts = k.counts;
   })

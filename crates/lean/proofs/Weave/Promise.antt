@@ -1,4 +1,4 @@
--- A plan of the lean form keeps the values, its code is calm, by its trace changes are caught, and with the sweep none is silent at the end.
+-- A plan of the lean form keeps the values, its code is calm, changes are caught, and the sweep leaves none silent.
 use Rattle.std.proofs.Common.{◌≡◌, ℕ, zero, suc, ◌+◌, ◌*◌, ◌^◌, ◌<◌, ◌≤◌, ⊎_elim, Bool, true, false, List, [], ◌++◌, length, Some, refl, sym, ap, ◌∙◌, subst, arith, append_assoc, length-append}
 use Rattle.qed_model.specs.declared.bounds.Bounds.{Bounds}
 use Rattle.tests.specs.Admission.DataRanges.{word_count}
@@ -19,12 +19,12 @@ use Rattle.weave_core.specs.KindItems.{LockItems, AllLand, OpenEntries, AllBlock
 use Rattle.weave_core.specs.Kinds.{opens}
 use Rattle.weave_core.specs.Lock.{Opens}
 use Rattle.weave_core.specs.Leaving.{sweep_cost}
-use Rattle.weave_core.specs.Weave.{stage_steps, start_steps}
+use Rattle.weave_core.specs.Weave.{stage_steps, most_before_start}
 use Rattle.weave_core.specs.WeaveLaws.{EntriesAt}
 use Rattle.weave_core.proofs.Lemmas.{reads_front, instructions_then, reads_words, stub_opens, items_then, all_land_append, has_rest, opens_behind, length-instructions, WeaveIn, kept, in_step, feeds_at, quiet_before}
 use Rattle.lockstep.proofs.Lemmas.{round_some, CalmCode, cleaned, faults_found, WordAt, stub_words, reads_rest, word_of, stub_open, Times, BoundsBy, CaughtAll, caught_of, settles_all, Sizes, all_blocks}
 use Rattle.qed_model.specs.Promise.Faults.{FaultsFound}
-use Rattle.lean.specs.Woven.{LeanPlan, LeanKept, LeanKeptInStep, LeanCaught, LeanClean, IsBoundsOf, weave_of, check_steps, swept_steps, start_of, piece_of}
+use Rattle.lean.specs.Woven.{LeanPlan, LeanKept, LeanKeptInStep, LeanCaught, LeanClean, IsLeanBoundsOf, lean_weave_of, check_steps, swept_steps, lean_start_of, lean_piece_of}
 use Rattle.lean.proofs.Weave.Beats.{sizes, traced, Bound, swept_end}
 use Rattle.lean.proofs.Weave.Begin.{lean_starts}
 use Rattle.lean.proofs.Weave.Cells.{Counts}
@@ -82,7 +82,7 @@ module _ (f g : Program) (w : World) (l : Lean) (blocks : List Block) (p : LeanP
   counted : (a : ℕ) → leader a ≡ true → Counted w l leader a
   counted a h = let b = begun blocks a h in entry_of w l leader p.sound.near b.0 a (block_at b.0 b.1) b.2
 
-  entries : EntriesAt w (weave_of w l leader) leader
+  entries : EntriesAt w (lean_weave_of w l leader) leader
   entries a h = (counted a h).entry
 
   counts : Counts w l leader entries
@@ -94,7 +94,7 @@ module _ (f g : Program) (w : World) (l : Lean) (blocks : List Block) (p : LeanP
 
   -- ---- the words
   pub good : AllBlocks blocks
-  good = all_blocks w (weave_of w l leader) leader blocks p.good
+  good = all_blocks w (lean_weave_of w l leader) leader blocks p.good
 
   rest_items : LockItems false (middle ++ last)
   rest_items = items_then false middle last (check_items false w.base w.distance l.every w.form.round w.form.spans) (entries_locks w l leader blocks good)
@@ -164,27 +164,27 @@ module _ (f g : Program) (w : World) (l : Lean) (blocks : List Block) (p : LeanP
       word_of w g.entry body items reads (subst (λ b. AllLand w.code g.entry (instructions_from b w.entry g.entry (first ++ (middle ++ last)))) far lands)
       (subst (λ b. (a : ℕ) (i : Ins) → w.code a ≡ Known i → (k : ℕ) × (a ≡ g.entry + 4 * k) × (a ≤ g.entry + 4 * length (instructions_from b w.entry g.entry (first ++ (middle ++ last))))) far only)
 
-  pub woven : WeaveIn f g w (weave_of w l leader) leader
+  pub woven : WeaveIn f g w (lean_weave_of w l leader) leader
   woven = record { rows = lean_rows w l leader p.sound; starts = lean_starts f g w l leader p.sound; world = p.world; entries = entries; leads = p.begins; begins = begins }
 
   -- the bounds on its steps
   abbrev before : ℕ
-  before = start_steps (weave_of w l leader)
+  before = most_before_start (lean_weave_of w l leader)
 
   abbrev per : ℕ
-  per = stage_steps (weave_of w l leader)
+  per = stage_steps (lean_weave_of w l leader)
 
   calm : CalmCode f g w before per
   calm = record {
     world = p.world;
     words = words;
     entries = entries_open;
-    kept = in_step f g w (weave_of w l leader) leader woven (omega arith);
-    quiet = quiet_before f g w (weave_of w l leader) leader woven;
+    kept = in_step f g w (lean_weave_of w l leader) leader woven (omega arith);
+    quiet = quiet_before f g w (lean_weave_of w l leader) leader woven;
   }
 
   -- ---- changes are caught
-  module _ (round : 1 ≤ w.form.round) (bounds : Bounds) (are : IsBoundsOf w l bounds) where
+  module _ (round : 1 ≤ w.form.round) (bounds : Bounds) (are : IsLeanBoundsOf w l bounds) where
     abbrev z : Sizes
     z = sizes f g w l leader p.sound p.world entries counts p.begins p.ticked begins
 
@@ -207,13 +207,13 @@ module _ (f g : Program) (w : World) (l : Lean) (blocks : List Block) (p : LeanP
     catches_all = record {
       settles = λ regs cs b start ordered free bound covers going.
           settles_all f g w before per calm regs start z w.form.round (31 + (entry_steps l.land + call_steps l.land)) (Bound f g w l leader p.sound p.world entries counts p.begins p.ticked begins regs start) times
-          (λ h c. traced f g w l leader p.sound p.world entries counts p.begins p.ticked begins regs start h (feeds_at f g w (weave_of w l leader) leader woven regs h c)) bounds by cs b ordered free bound covers going;
+          (λ h c. traced f g w l leader p.sound p.world entries counts p.begins p.ticked begins regs start h (feeds_at f g w (lean_weave_of w l leader) leader woven regs h c)) bounds by cs b ordered free bound covers going;
     }
 
     pub catches : CaughtInStep f g w.reached w.form.spans bounds before per
     catches = caught_of f g w before per bounds calm catches_all
 
-    -- so are wrong results, as changes
+    -- wrong results are caught, as changes
     pub finds : FaultsFound f g w.reached w.form.spans bounds before per
     finds = faults_found f g w before per bounds calm (omega (arith, are.register)) (λ b e. wide (word_count w.form.spans) b (sym are.word ∙ e)) catches_all where
       wide : (n b : ℕ) → word_bound l.land n w.form.round (swept_steps w) (period l.land (check_steps w) l.every) ≡ Some b → 2 ≤ b
@@ -235,17 +235,17 @@ pub stage_is : (l : Lean) (c m : ℕ) → 2 * entry_steps l.land + (call_steps l
 stage_is l c m = omega arith
 
 pub lean_kept : LeanKept
-lean_kept f g w l blocks p = subst (λ n. Kept f g w.reached (start_of w) n) (stage_is l (check_steps w) (cost_of l.diverse * l.inst_max)) (kept f g w (weave_of w l (begins_at blocks)) (begins_at blocks) (woven f g w l blocks p))
+lean_kept f g w l blocks p = subst (λ n. Kept f g w.reached (lean_start_of w) n) (stage_is l (check_steps w) (cost_of l.diverse * l.inst_max)) (kept f g w (lean_weave_of w l (begins_at blocks)) (begins_at blocks) (woven f g w l blocks p))
 
 pub lean_in_step : LeanKeptInStep
-lean_in_step f g w l blocks p = subst (λ n. KeptInStep f g w.reached w.distance (start_of w) n) (stage_is l (check_steps w) (cost_of l.diverse * l.inst_max)) (in_step f g w (weave_of w l (begins_at blocks)) (begins_at blocks) (woven f g w l blocks p) (omega arith))
+lean_in_step f g w l blocks p = subst (λ n. KeptInStep f g w.reached w.distance (lean_start_of w) n) (stage_is l (check_steps w) (cost_of l.diverse * l.inst_max)) (in_step f g w (lean_weave_of w l (begins_at blocks)) (begins_at blocks) (woven f g w l blocks p) (omega arith))
 
 pub lean_caught : LeanCaught
-lean_caught f g w l blocks bounds p round are = subst (λ n. CaughtInStep f g w.reached w.form.spans bounds (start_of w) n) (stage_is l (check_steps w) (cost_of l.diverse * l.inst_max)) (catches f g w l blocks p round bounds are)
+lean_caught f g w l blocks bounds p round are = subst (λ n. CaughtInStep f g w.reached w.form.spans bounds (lean_start_of w) n) (stage_is l (check_steps w) (cost_of l.diverse * l.inst_max)) (catches f g w l blocks p round bounds are)
 
 pub lean_faults :
-    (f g : Program) (w : World) (l : Lean) (blocks : List Block) (bounds : Bounds) → LeanPlan f g w l blocks → 1 ≤ w.form.round → IsBoundsOf w l bounds → FaultsFound f g w.reached w.form.spans bounds (start_of w) (piece_of w l)
-lean_faults f g w l blocks bounds p round are = subst (λ n. FaultsFound f g w.reached w.form.spans bounds (start_of w) n) (stage_is l (check_steps w) (cost_of l.diverse * l.inst_max)) (finds f g w l blocks p round bounds are)
+    (f g : Program) (w : World) (l : Lean) (blocks : List Block) (bounds : Bounds) → LeanPlan f g w l blocks → 1 ≤ w.form.round → IsLeanBoundsOf w l bounds → FaultsFound f g w.reached w.form.spans bounds (lean_start_of w) (lean_piece_of w l)
+lean_faults f g w l blocks bounds p round are = subst (λ n. FaultsFound f g w.reached w.form.spans bounds (lean_start_of w) n) (stage_is l (check_steps w) (cost_of l.diverse * l.inst_max)) (finds f g w l blocks p round bounds are)
 
 pub lean_clean : LeanClean
-lean_clean f g w l blocks p sweeps = subst (λ n. CleanInStep f g w.reached w.form.spans (sweep_cost w.form.spans + 14) (start_of w) n) (stage_is l (check_steps w) (cost_of l.diverse * l.inst_max)) (cleans f g w l blocks p sweeps)
+lean_clean f g w l blocks p sweeps = subst (λ n. CleanInStep f g w.reached w.form.spans (sweep_cost w.form.spans + 14) (lean_start_of w) n) (stage_is l (check_steps w) (cost_of l.diverse * l.inst_max)) (cleans f g w l blocks p sweeps)

@@ -13,11 +13,11 @@ use Rattle.weave_core.specs.Rows.{At, Sourced}
 use Rattle.weave_core.specs.Weave.{Weave}
 use Rattle.weave_core.specs.WeaveLaws.{PieceAt, Stands, GoesTo, Inside, Trail}
 use Rattle.weave_core.proofs.Lemmas.{writes, halved_writes, words_within}
-use Rattle.lean.specs.Ticked.{counted, is_ticked_at}
+use Rattle.lean.specs.Ticked.{with_count, is_ticked_at}
 use Rattle.qed_model.specs.Weave.LeanBounds.{cost_of, entry_steps, call_steps}
 use Rattle.qed_model.specs.Weave.Lean.{first_word, tick, enter, call_at, check}
 use Rattle.qed_model.specs.Weave.LeanCode.{Lean}
-use Rattle.lean.specs.Woven.{check_steps, weave_of, LeanIn}
+use Rattle.lean.specs.Woven.{check_steps, lean_weave_of, LeanIn}
 use Rattle.lean.proofs.Weave.Chain.{read_back, all_temps}
 use Rattle.lean.proofs.Weave.Check.{Back, check_row}
 use Rattle.lean.proofs.Weave.Held.{Ticked, ticked_of, ticked_is, ticked_same}
@@ -27,7 +27,7 @@ use Rattle.lean.proofs.Weave.Tick.{shifted, jump_at, pass_row, call_row}
 
 module _ (w : World) (l : Lean) (leader : ℕ → Bool) (x : LeanIn w l leader) where
   abbrev v : Weave
-  v = weave_of w l leader
+  v = lean_weave_of w l leader
 
   -- ---- the entry
   -- the words of the tick of a block, whose jump leads to the check from an address
@@ -102,7 +102,7 @@ module _ (w : World) (l : Lean) (leader : ℕ → Bool) (x : LeanIn w l leader) 
   -- where none stands nothing is counted
   pub skips :
       (u s : State) (rest : List Item) (a : ℕ) (e : Enters u s rest a) → l.ticks a ≡ false
-      → GoesTo w u 0 (entry_steps l.land) (λ n y. Entered s rest a n y × (reg y CURSOR ≡ counted e.ticked.offset e.ticked.count))
+      → GoesTo w u 0 (entry_steps l.land) (λ n y. Entered s rest a n y × (reg y CURSOR ≡ with_count e.ticked.offset e.ticked.count))
   skips u s rest a e none =
       let t = e.ticked in
       let x0 = at_tick u s rest a e in
@@ -125,7 +125,7 @@ module _ (w : World) (l : Lean) (leader : ℕ → Bool) (x : LeanIn w l leader) 
   -- where the count does not pass 2047 the tick passes
   pub passes :
       (u s : State) (rest : List Item) (a : ℕ) (e : Enters u s rest a) → l.ticks a ≡ true → e.ticked.count + l.most a ≤ 2047
-      → GoesTo w u (entry_steps l.land) (entry_steps l.land) (λ n y. Entered s rest a n y × (reg y CURSOR ≡ counted e.ticked.offset (e.ticked.count + l.most a)))
+      → GoesTo w u (entry_steps l.land) (entry_steps l.land) (λ n y. Entered s rest a n y × (reg y CURSOR ≡ with_count e.ticked.offset (e.ticked.count + l.most a)))
   passes u s rest a e has le =
       let t = e.ticked in
       let most = l.most a in
@@ -133,7 +133,7 @@ module _ (w : World) (l : Lean) (leader : ℕ → Bool) (x : LeanIn w l leader) 
       let v = x0.to in
       let long = x0.halved.output.regs in
       let p = pass_row w v most t.count t.offset x0.over long x0.halved.output.zero_reg (x0.fifteen ∙ t.fifteen) t.most t.few (omega (arith, le)) l.land a rest (distance_between (v.pc + jump_at l.land) l.check) le (at_its v.pc a (v.pc + jump_at l.land) rest has x0.reads) in
-      let c = counted t.offset (t.count + most) in
+      let c = with_count t.offset (t.count + most) in
       let ws : List (ℕ × ℕ) = (15, c) ∷ (31, shifted c) ∷ [] in
       let y = moved (writes ws v.regs) p.pc v in
       let here : reg y CURSOR ≡ c = read_back ws v.regs 15 long refl in
@@ -166,7 +166,7 @@ module _ (w : World) (l : Lean) (leader : ℕ → Bool) (x : LeanIn w l leader) 
     pub cursor : IsCursor w.form.spans (first_word w.base w.form.spans + off)
     pub count : ℕ
     pub below : count < 4096
-    pub fifteen : reg y CURSOR ≡ counted off count
+    pub fifteen : reg y CURSOR ≡ with_count off count
     pub sign : reg y SIGNATURE ≡ s.pc
     pub named : reg y TEMPORARY ≡ s.pc
 

@@ -1,5 +1,5 @@
--- In the lean form blocks are short: each multiple of so many words as a piece has at most begins one. So a block has no more instructions than a piece, and fewer
--- steps than there are from check to check.
+-- In the lean form blocks are short: each multiple of as many words as a piece may have begins one. So a block has no
+-- more instructions than a piece, and fewer steps than there are from check to check.
 use Rattle.std.proofs.Common.{◌≡◌, ℕ, ◌+◌, ◌-◌, ◌*◌, ◌/◌, ◌%◌, ◌<◌, ◌≤◌, ⊎_elim, Bool, true, List, length, Some, is_some, ap, ◌∙◌, subst, arith}
 use Rattle.std.specs.Prelude.{IfSome}
 use Rattle.std.proofs.lemmas.Bool.{cases_lt}
@@ -18,7 +18,7 @@ use Rattle.lean.proofs.Weave.Blocks.{begins, length_is, leading}
 use Rattle.lean.proofs.Weave.Costs.{IsEnd, body_most, end_most}
 
 -- ---- the next multiple
--- so many words behind an aligned address
+-- n words behind an aligned address
 abbrev words_to : ℕ → ℕ → ℕ
 words_to n a = n - a / 4 % n
 
@@ -58,7 +58,7 @@ module _ (f : ElfFile) (o : Options) (every : ℕ) (sound : AreSoundOptions o) (
         } in
         l.inside k (omega (arith, below)) inside leads
 
-  -- and so many steps at most
+  -- the most steps of a block
   abbrev pub own_most : ℕ
   own_most = entry_steps o.land + 27 + cost_of o.diverse * o.inst_max
 

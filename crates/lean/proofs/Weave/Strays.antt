@@ -1,4 +1,4 @@
--- A jump that goes astray into a block with another signature: the pieces end in the leave, which turns the signature to where it leads, and the test there fires.
+-- A jump that strays into a block with another signature: the leave turns that to where it leads; the test there fires.
 use Rattle.std.proofs.Common.{◌≡◌, ℕ, zero, suc, ◌+◌, ◌*◌, ◌/◌, ◌%◌, ◌^◌, ◌<◌, ◌≤◌, ◌⊎◌, inl, inr, ⊎_elim, Bool, true, false, cond, List, [], ◌∷◌, ◌++◌, length, refl, sym, ap, ◌∙◌, subst, arith, append_assoc}
 use Rattle.std.specs.Prelude.{◌==◌, ◌-◌, pos, neg_ℤ, slice_index, slice_set}
 use Rattle.std.proofs.lemmas.Bool.{and_parts, eqb-true, ne_eqb, cases_eq}
@@ -24,11 +24,11 @@ use Rattle.weave_core.specs.Rows.{Sized}
 use Rattle.weave_core.specs.Weave.{Weave}
 use Rattle.weave_core.specs.WeaveLaws.{PiecesAt}
 use Rattle.weave_core.proofs.Lemmas.{go_walk, go_most, jumped_to, branch_passed, step-break, pc_four, flagged_moved, sized_step, sets_compute, writes, writes_out, writes_long, standing_at, standing_step, standing_run}
-use Rattle.lean.specs.Woven.{LeanPlan, LeanStrayed, weave_of}
-use Rattle.lean.specs.Strayed.{IsInside, steps_in, Stopped, Strayed}
+use Rattle.lean.specs.Woven.{LeanPlan, LeanStrayed, lean_weave_of}
+use Rattle.lean.specs.Strayed.{IsInBlock, steps_in, Stopped, Strayed}
 use Rattle.lean.proofs.Weave.Chain.{items, effects, read_back, chain}
 use Rattle.lean.proofs.Weave.Costs.{guard_most, links_most, turn_most, way_most}
-use Rattle.lean.proofs.Weave.Drift.{Drifts, drifts_append, size_cost, drifts_guards, drifts_links, drifts_piece, drifts_distance, drifts_way, Comes, comes_over, comes_one, comes_more, comes_behind, comes_on, Astray, Before, over_of, drift, drift_from}
+use Rattle.lean.proofs.Weave.Drift.{Drifts, drifts_append, size_cost, drifts_guards, drifts_links, drifts_piece, drifts_distance, drifts_way, Comes, comes_over, comes_one, comes_more, comes_behind, comes_on, Drifting, Before, over_of, drift, drift_from}
 use Rattle.lean.proofs.Weave.Blocks.{begins}
 use Rattle.lean.proofs.Weave.Landed.{in_it, behind, tests}
 use Rattle.lean.proofs.Weave.Leap.{goal, signed, turn_ops, turn_gives, aim_ops, aim_gives}
@@ -78,7 +78,7 @@ module _ (f g : Program) (w : World) (l : Lean) (blocks : List Block) (p : LeanP
   leader a = begins_at blocks a
 
   abbrev v : Weave
-  v = weave_of w l leader
+  v = lean_weave_of w l leader
 
   -- no state: the run is over before
   abbrev Over : State → ℕ → Type 0
@@ -105,7 +105,7 @@ module _ (f g : Program) (w : World) (l : Lean) (blocks : List Block) (p : LeanP
 
   -- ---- single words
   -- the zero word
-  at_illegal : (x : ℕ) (y : State) (i : Ins) → Astray w x y → w.code y.pc ≡ Known i → class_of i.kind ≡ class.Illegal → Over y 0
+  at_illegal : (x : ℕ) (y : State) (i : Ins) → Drifting w x y → w.code y.pc ≡ Known i → class_of i.kind ≡ class.Illegal → Over y 0
   unfolding execute
   at_illegal x y i a h c = comes_over (λ z. ⊥) y 0 (inr (ap (λ s. is_trapped s.outcome) (step-class y i class.Illegal a.going (known_at w.code y i (over_of w x y a) h) c)))
 
@@ -121,13 +121,13 @@ module _ (f g : Program) (w : World) (l : Lean) (blocks : List Block) (p : LeanP
   low_of : (t : ℕ) → leader t ≡ true → t < 2 ^ 64
   low_of t h = ((in_it f g w l blocks p land).entries t h).good.low
 
-  at_leader : (t x : ℕ) (y : State) (h : leader t ≡ true) → Astray w x y → y.pc ≡ w.entry t → (x ≡ t → ⊥) → Over y 3
+  at_leader : (t x : ℕ) (y : State) (h : leader t ≡ true) → Drifting w x y → y.pc ≡ w.entry t → (x ≡ t → ⊥) → Over y 3
   at_leader t x y h a at ne =
       let xs = behind f g w l blocks p land t h in
       let r = subst (λ n. Reads w.form.far w.code w.entry n (check_sign t ++ xs)) (sym at) (tests f g w l blocks p land t h) in
       record { steps = 3; within = omega arith; is = inl (inl (fires w y t xs (low_of t h) (over_of w x y a) a.standing.flagged.regs r (λ e. ne (sym a.sign ∙ e)))) }
 
-  at_entry : (t x : ℕ) (y : State) → Astray w x y → y.pc ≡ w.entry t → Other t x → Over y 3
+  at_entry : (t x : ℕ) (y : State) → Drifting w x y → y.pc ≡ w.entry t → Other t x → Over y 3
   at_entry t x y a at ne =
       ⊎_elim
       (λ h. at_leader t x y h a at (ne h))
@@ -142,17 +142,17 @@ module _ (f g : Program) (w : World) (l : Lean) (blocks : List Block) (p : LeanP
       (p.only.stubbed t)
 
   -- a jump to one
-  go_law : (t x : ℕ) (y : State) (rest : List Item) → Astray w x y → Reads false w.code w.entry y.pc (Go t ∷ rest) → Other t x → Over y 4
+  go_law : (t x : ℕ) (y : State) (rest : List Item) → Drifting w x y → Reads false w.code w.entry y.pc (Go t ∷ rest) → Other t x → Over y 4
   go_law t x y rest a r ne =
       let e = entry_place t in
       let k = go_walk w y t rest (over_of w x y a) (to_far y.pc (Go t ∷ rest) r) a.standing.flagged.regs e.0 e.1 in
       let one : go_most w.form.far ≡ 1 = ap go_most p.sound.near in
       let z = run y k.steps in
-      let there : Astray w x z = record { going = ap (λ s. s.outcome) k.walk.ends ∙ a.going; standing = standing_run w.code w.output w.output_fixed k.steps y a.standing; sign = ap (λ s. reg s SIGNATURE) k.walk.ends ∙ k.same 16 (λ q. absurd (omega arith)) ∙ a.sign } in
+      let there : Drifting w x z = record { going = ap (λ s. s.outcome) k.walk.ends ∙ a.going; standing = standing_run w.code w.output w.output_fixed k.steps y a.standing; sign = ap (λ s. reg s SIGNATURE) k.walk.ends ∙ k.same 16 (λ q. absurd (omega arith)) ∙ a.sign } in
       over_more y (k.steps + 3) 4 (omega (arith, k.within, one)) (over_behind y z k.steps 3 refl (at_entry t x z there (ap (λ s. s.pc) k.walk.ends) ne))
 
   -- a fall to one
-  fall_law : (t x : ℕ) (y : State) → Astray w x y → Reads false w.code w.entry y.pc (fall_to leader t) → Other t x → Over y 4
+  fall_law : (t x : ℕ) (y : State) → Drifting w x y → Reads false w.code w.entry y.pc (fall_to leader t) → Other t x → Over y 4
   fall_law t x y a r ne = by (leader t) r where
     by : (b : Bool) → Reads false w.code w.entry y.pc (cond b (Mark t ∷ []) (Go t ∷ [])) → Over y 4
     by true r = over_more y 3 4 (omega arith) (at_entry t x y a (sym r.0) ne)
@@ -164,13 +164,13 @@ module _ (f g : Program) (w : World) (l : Lean) (blocks : List Block) (p : LeanP
     abbrev Turned : ℕ → List Item → State → Type 0
     Turned t rest y = (z : ℕ) × Before w z rest y × (t < 2 ^ 64 → z ≡ t → ⊥)
 
-    turn_law : (t : ℕ) (u : State) (rest : List Item) → Astray w x u → Reads false w.code w.entry u.pc (turn a t ++ rest) → Comes (Turned t rest) u 3
+    turn_law : (t : ℕ) (u : State) (rest : List Item) → Drifting w x u → Reads false w.code w.entry u.pc (turn a t ++ rest) → Comes (Turned t rest) u 3
     turn_law t u rest k r =
         let s = turn_any w u rest (over_of w x u k) k.standing.flagged.regs a t (to_far u.pc (turn a t ++ rest) r) in
         let to = turned w u rest (over_of w x u k) k.standing.flagged.regs a t in
         let ends = s.sets.walk.ends in
         let few = turn_most a t in
-        let there : Astray w (turned w u rest (over_of w x u k) k.standing.flagged.regs a t) (run u s.steps) = record { going = ap (λ z. z.outcome) ends ∙ k.going; standing = standing_run w.code w.output w.output_fixed s.steps u k.standing; sign = ap (λ z. reg z SIGNATURE) ends ∙ s.sign } in
+        let there : Drifting w (turned w u rest (over_of w x u k) k.standing.flagged.regs a t) (run u s.steps) = record { going = ap (λ z. z.outcome) ends ∙ k.going; standing = standing_run w.code w.output w.output_fixed s.steps u k.standing; sign = ap (λ z. reg z SIGNATURE) ends ∙ s.sign } in
         record {
           steps = s.steps;
           within = omega (arith, s.within, few);
@@ -180,15 +180,15 @@ module _ (f g : Program) (w : World) (l : Lean) (blocks : List Block) (p : LeanP
           was true q ht e = sym k.sign ∙ e ∙ sym (eqb-true a t q)
           was false q ht e = turned_same a t x (wrapped (distance_between a t)) low small (difference a t low ht) (ap (λ n. (n + wrapped (distance_between a t)) % 2 ^ 64) (sym k.sign) ∙ e)
 
-    goes_law : (t : ℕ) (u : State) (rest : List Item) → Astray w x u → Reads false w.code w.entry u.pc (goes a t ++ rest) → Over u 7
+    goes_law : (t : ℕ) (u : State) (rest : List Item) → Drifting w x u → Reads false w.code w.entry u.pc (goes a t ++ rest) → Over u 7
     goes_law t u rest k r =
         let flat = subst (λ xs. Reads false w.code w.entry u.pc xs) (append_assoc (turn a t) (Go t ∷ []) rest) r in
         over_on (Turned t (Go t ∷ rest)) u 3 4 (turn_law t u (Go t ∷ rest) k flat) (λ y b. go_law t b.0 y rest b.1.0 b.1.1 (λ h. b.2 (low_of t h)))
 
-    falls_law : (t : ℕ) (u : State) → Astray w x u → Reads false w.code w.entry u.pc (turn a t ++ fall_to leader t) → Over u 7
+    falls_law : (t : ℕ) (u : State) → Drifting w x u → Reads false w.code w.entry u.pc (turn a t ++ fall_to leader t) → Over u 7
     falls_law t u k r = over_on (Turned t (fall_to leader t)) u 3 4 (turn_law t u (fall_to leader t) k r) (λ y b. fall_law t b.0 y b.1.0 b.1.1 (λ h. b.2 (low_of t h)))
 
-    end_law : (d : ℕ) (u : State) (rest : List Item) → Astray w x u → Reads false w.code w.entry u.pc (compare ++ (check_distance d ++ (check_sign a ++ rest))) → Over u 18
+    end_law : (d : ℕ) (u : State) (rest : List Item) → Drifting w x u → Reads false w.code w.entry u.pc (compare ++ (check_distance d ++ (check_sign a ++ rest))) → Over u 18
     end_law d u rest k r =
         let more = check_sign a ++ rest in
         over_on (Before w x (check_distance d ++ more)) u ORIGINALS 5 (drift w compare (drifts_guards originals) x u (check_distance d ++ more) k r)
@@ -196,7 +196,7 @@ module _ (f g : Program) (w : World) (l : Lean) (blocks : List Block) (p : LeanP
         over_on (Before w x more) z 2 3 (drift w (check_distance d) (drifts_distance d) x z more c.0 c.1)
         (λ y b. record { steps = 3; within = omega arith; is = inl (inl (fires w y a rest low (over_of w x y b.0) b.0.standing.flagged.regs (to_far y.pc more b.1) (λ e. ne (sym b.0.sign ∙ e)))) }))
 
-    jump_law : (u : State) (i : Ins) (at : ℕ) → i.rd ≤ LAST_ORIGINAL → Astray w x u → Reads false w.code w.entry u.pc (links i at ++ goes a (target i at)) → Over u 18
+    jump_law : (u : State) (i : Ins) (at : ℕ) → i.rd ≤ LAST_ORIGINAL → Drifting w x u → Reads false w.code w.entry u.pc (links i at ++ goes a (target i at)) → Over u 18
     jump_law u i at h k r =
         let t = target i at in
         let few = links_most i at in
@@ -209,7 +209,7 @@ module _ (f g : Program) (w : World) (l : Lean) (blocks : List Block) (p : LeanP
     other_way i n = check_way (opposite i.kind) i ++ (turn a n ++ fall_to leader n)
 
     way_law :
-        (u : State) (j i : Ins) (t n : ℕ) → class_of j.kind ≡ class.Branch → class_of i.kind ≡ class.Branch → j.imm ≡ pos (4 + sum_of_sizes false (taken i a t)) → Astray w x u
+        (u : State) (j i : Ins) (t n : ℕ) → class_of j.kind ≡ class.Branch → class_of i.kind ≡ class.Branch → j.imm ≡ pos (4 + sum_of_sizes false (taken i a t)) → Drifting w x u
         → Reads false w.code w.entry u.pc (Plain j ∷ (taken i a t ++ other_way i n)) → Over u 9
     unfolding execute
     way_law u j i t n is c imm_is k r =
@@ -226,7 +226,7 @@ module _ (f g : Program) (w : World) (l : Lean) (blocks : List Block) (p : LeanP
               let more = turn a n ++ fall_to leader n in
               over_on (Before w x more) y 1 7 (comes_more (Before w x more) y (cost (check_way (opposite i.kind) i)) 1 (way_most (opposite i.kind) i) (drift w (check_way (opposite i.kind) i) (drifts_way (opposite i.kind) i (opposite_is i.kind c).0) x y more h.0 h.1)) (λ z b. falls_law n z b.0 b.1)
 
-          there : (q : ℕ) → step u ≡ moved u.regs q u → Astray w x (step u) × ((step u).pc ≡ q)
+          there : (q : ℕ) → step u ≡ moved u.regs q u → Drifting w x (step u) × ((step u).pc ≡ q)
           there q e = (record { going = ap (λ z. z.outcome) e ∙ k.going; standing = standing_step w.code w.output w.output_fixed u k.standing; sign = ap (λ z. reg z SIGNATURE) e ∙ k.sign }, ap (λ z. z.pc) e)
 
           by : (b : Bool) → step u ≡ cond b (jumped u.regs ((u.pc + imm j) % 2 ^ 64) u) (moved u.regs (next_pc u) u) → Before w x (taken i a t ++ other_way i n) (step u) ⊎ Before w x (other_way i n) (step u)
@@ -240,7 +240,7 @@ module _ (f g : Program) (w : World) (l : Lean) (blocks : List Block) (p : LeanP
               let s = there (u.pc + 4) (e ∙ ap (λ q. moved u.regs q u) (pc_four w u j r.0)) in
               inl (s.0, subst (λ q. Reads false w.code w.entry q (taken i a t ++ other_way i n)) (sym s.1) r.1)
 
-    branch_law : (u : State) (i : Ins) (at : ℕ) → class_of i.kind ≡ class.Branch → Astray w x u → Reads false w.code w.entry u.pc (leave_as l.distance [] (fall_to leader) class.Branch i a at) → Over u 18
+    branch_law : (u : State) (i : Ins) (at : ℕ) → class_of i.kind ≡ class.Branch → Drifting w x u → Reads false w.code w.entry u.pc (leave_as l.distance [] (fall_to leader) class.Branch i a at) → Over u 18
     branch_law u i at c k r =
         let j = ins (opposite i.kind) 0 i.rs1 i.rs2 (pos (4 + sum_of_sizes false (taken i a (target i at)))) in
         over_more u 9 18 (omega arith) (way_law u j i (target i at) ((at + 4) % 2 ^ 64) (opposite_is i.kind c).0 c refl k r)
@@ -308,7 +308,7 @@ module _ (f g : Program) (w : World) (l : Lean) (blocks : List Block) (p : LeanP
             whole : (n : ℕ) → n < 2 ^ 64 → n % 2 ^ 64 ≡ n
             whole n h = omega (arith, h)
 
-      leap_law : (u : State) → Astray w x u → Reads false w.code w.entry u.pc (leave_as l.distance [] (fall_to leader) class.JumpReg i a at) → Over u 18
+      leap_law : (u : State) → Drifting w x u → Reads false w.code w.entry u.pc (leave_as l.distance [] (fall_to leader) class.JumpReg i a at) → Over u 18
       leap_law u b r =
           let value = reg u (pair i.rs1) in
           let turns = turn_ops i a x value in
@@ -327,7 +327,7 @@ module _ (f g : Program) (w : World) (l : Lean) (blocks : List Block) (p : LeanP
 
     -- ---- of any end
     stop_law :
-        (c : Class) (u : State) (i : Ins) (at : ℕ) → class_of i.kind ≡ c → Leaves c w leader i at → Astray w x u
+        (c : Class) (u : State) (i : Ins) (at : ℕ) → class_of i.kind ≡ c → Leaves c w leader i at → Drifting w x u
         → Reads false w.code w.entry u.pc (leave_as l.distance (before_end w.form) (fall_to leader) c i a at) → Over u 18
     stop_law class.End u i at c h k r = end_law l.distance u (before_end w.form ++ (Plain i ∷ [])) k r
     stop_law class.Illegal u i at c h k r = over_more u 0 18 (omega arith) (at_illegal x u i k r.0 c)
@@ -336,7 +336,7 @@ module _ (f g : Program) (w : World) (l : Lean) (blocks : List Block) (p : LeanP
     stop_law class.JumpReg u i at c h k r = leap_law i at h.1 u k r
     stop_law c u i at e h k r = absurd h
 
-  leave_law : (e : End) (a x : ℕ) (u : State) (at : ℕ) → a < 2 ^ 64 → x < 2 ^ 64 → (x ≡ a → ⊥) → EndStands w leader e at → Astray w x u → Reads false w.code w.entry u.pc (leave l.distance (before_end w.form) (fall_to leader) e a at) → Over u 18
+  leave_law : (e : End) (a x : ℕ) (u : State) (at : ℕ) → a < 2 ^ 64 → x < 2 ^ 64 → (x ≡ a → ⊥) → EndStands w leader e at → Drifting w x u → Reads false w.code w.entry u.pc (leave l.distance (before_end w.form) (fall_to leader) e a at) → Over u 18
   leave_law Falls a x u at low small ne h k r = over_more u 7 18 (omega arith) (falls_law a x low small ne at u k r)
   leave_law (Stops i) a x u at low small ne h k r = stop_law a x low small ne (class_of i.kind) u i at refl h.1 k r
 
@@ -351,7 +351,7 @@ module _ (f g : Program) (w : World) (l : Lean) (blocks : List Block) (p : LeanP
 
   -- ---- inside of a block
   -- from a word of its pieces to before its leave
-  module _ (regs : List ℕ) (t q : ℕ) (b : Block) (are : AreStartRegs regs) (going : (after_output g regs t).outcome ≡ Going) (m : Among b blocks) (inside : IsInside (worded w.form w.base w.entry l leader) w.entry b q) where
+  module _ (regs : List ℕ) (t q : ℕ) (b : Block) (are : AreStartRegs regs) (going : (after_output g regs t).outcome ≡ Going) (m : Among b blocks) (inside : IsInBlock (worded w.form w.base w.entry l leader) w.entry b q) where
     abbrev x : ℕ
     x = reg (after_output g regs t) SIGNATURE
 
@@ -380,7 +380,7 @@ module _ (f g : Program) (w : World) (l : Lean) (blocks : List Block) (p : LeanP
         let enters = sum_of_sizes false (v.code.enter b.start) in
         let behind = reads_behind false w.code w.entry (w.entry b.start) (v.code.enter b.start) (body ++ v.code.leave b.end at) here.reads.1 in
         let reads : Reads false w.code w.entry (w.entry b.start + enters) (body ++ leaves) = subst (λ k. Reads false w.code w.entry (w.entry b.start + sum_of_sizes false (v.code.enter b.start)) (pieces_of v.code b.body b.start ++ leave l.distance (before_end w.form) (fall_to leader) b.end k (b.start + 4 * body_length b.body))) own behind in
-        let astray : Astray w (reg (after_output g regs t) SIGNATURE) (placed_at q (after_output g regs t)) = record { going = going; standing = record { code = st.code; flagged = flagged_moved w.output (after_output g regs t) q st.flagged }; sign = refl } in
+        let astray : Drifting w (reg (after_output g regs t) SIGNATURE) (placed_at q (after_output g regs t)) = record { going = going; standing = record { code = st.code; flagged = flagged_moved w.output (after_output g regs t) q st.flagged }; sign = refl } in
         drift_from w body (drifts_pieces b.body b.end b.start here.good.pieces) inside.words (w.entry b.start + enters) x y leaves (omega (arith, inside.within, same_size)) astray inside.there reads
 
     stopped : (x ≡ b.start → ⊥) → Stopped (steps_in (worded w.form w.base w.entry l leader) b) y

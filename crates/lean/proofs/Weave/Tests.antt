@@ -1,4 +1,4 @@
--- The lean form of an admitted test: all of it has words, where it has no more bytes than a JAL spans; it is a plan, and so are the promises over tests.
+-- The lean form of an admitted test: within a JAL's reach all of it has words; it is a plan that keeps the promises.
 use Rattle.std.proofs.Common.{◌≡◌, ℕ, ◌+◌, ◌*◌, ◌%◌, ◌^◌, ◌<◌, ◌≤◌, Bool, true, false, List, [], ◌∷◌, ◌++◌, length, Some, refl, sym, ap, ◌∙◌, subst, arith, append_assoc, length-append, ◌-◌, inl, inr}
 use Rattle.std.specs.Prelude.{map, All, pos, unwrap_or}
 use Rattle.std.proofs.lemmas.Bool.{and_from, eq-eqb, false≢true}
@@ -28,7 +28,7 @@ use Rattle.weave_core.specs.WeavePromise.{AllBlocksOf, OnlyCode}
 use Rattle.weave_core.proofs.Lemmas.{marked, rows_inputs, reads_front, place_low, AreItems, loaded_ranges, Ascend, code_distinct, rows_are, entry_or_stub, length-instructions, mark_behind, rows_behind, down, up, both_all, if_all, AllPieces, IsKnownBlock, InImage, admitted_image, test_writable}
 use Rattle.lockstep.proofs.Lemmas.{only_inside}
 use Rattle.lean.specs.Tests.{IsLeanTest, LeanTestsKept, LeanTestsCaught, LeanTestsFaults, LeanTestsLanded, LeanTestsStrayed, LeanTestsClean, AreLeanBlocks, LeanTestsHaveWords, LeanTestsWritable}
-use Rattle.lean.specs.Woven.{LeanIn, LeanPlan, weave_of}
+use Rattle.lean.specs.Woven.{LeanIn, LeanPlan, lean_weave_of}
 use Rattle.lean.proofs.Weave.Costs.{call_fits}
 use Rattle.lean.proofs.Weave.Ways.{reads_behind}
 use Rattle.lean.proofs.Weave.Blocks.{begun, begins, length_is, leading, starts, in_order, all_good}
@@ -281,7 +281,7 @@ module _ (f : ElfFile) (o : Options) (every : ℕ) (blocks : List Block) (t : Ar
           by [] q x = alone b.end x
           by (i ∷ is) q x = known b.start i q.0
 
-      good : AllBlocksOf w (weave_of w l (begins_at blocks)) (begins_at blocks) blocks
+      good : AllBlocksOf w (lean_weave_of w l (begins_at blocks)) (begins_at blocks) blocks
       good =
           all_good w l (begins_at blocks) blocks
           (λ b m. and_from _ _ (eq-eqb (start_at blocks b.end (b.start + 4 * body_length b.body)) b.start (starts f o (sound_most o t.sound) blocks t.are reached_only grain ascend b m)) (begins blocks b m))

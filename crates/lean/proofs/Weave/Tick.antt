@@ -11,7 +11,7 @@ use Rattle.qed_model.specs.Weave.LeanBounds.{call_steps}
 use Rattle.machine.proofs.Lemmas.{Over, over_moved, known_at, Walk, walk_one, walk_on, difference}
 use Rattle.weave_core.specs.World.{World, Quiet, Item, Plain, Constant, holds, value}
 use Rattle.weave_core.proofs.Lemmas.{addi_value, branch_taken, branch_passed, jumped_to, step-jump, quiet_as, own_signed, AllTemps, Sets, sets_const, writes, writes_long}
-use Rattle.lean.specs.Ticked.{counted}
+use Rattle.lean.specs.Ticked.{with_count}
 use Rattle.lean.proofs.Weave.Chain.{Op, plain, items, Gives, read_back, all_temps, chain, chain_pc}
 
 -- ---- the bit
@@ -29,10 +29,10 @@ high_holds x h = rw (le-ltb x (2 ^ 63) h) refl
 abbrev pub shifted : ℕ → ℕ
 shifted v = v * 2 ^ 52 % 2 ^ 64
 
-low_bit : (k c : ℕ) → c ≤ 2047 → shifted (counted k c) < 2 ^ 63
+low_bit : (k c : ℕ) → c ≤ 2047 → shifted (with_count k c) < 2 ^ 63
 low_bit k c h = omega (arith, h)
 
-high_bit : (k c : ℕ) → 2048 ≤ c → c < 4096 → 2 ^ 63 ≤ shifted (counted k c)
+high_bit : (k c : ℕ) → 2048 ≤ c → c < 4096 → 2 ^ 63 ≤ shifted (with_count k c)
 high_bit k c h l = omega (arith, h, l)
 
 -- what SLLI by 52 gives
@@ -54,9 +54,9 @@ abbrev pub jump_at : Bool → ℕ
 jump_at land = cond land 12 20
 
 -- ---- the row, where the count is n
-module _ (w : World) (u : State) (most n offset : ℕ) (o : Over w.code u) (long : length u.regs ≡ 32) (zero_reg : reg u 0 ≡ 0) (at : reg u CURSOR ≡ counted offset n) (high : n ≤ 2047) (few : offset < 2 ^ 32) (small : most ≤ 2047) where
+module _ (w : World) (u : State) (most n offset : ℕ) (o : Over w.code u) (long : length u.regs ≡ 32) (zero_reg : reg u 0 ≡ 0) (at : reg u CURSOR ≡ with_count offset n) (high : n ≤ 2047) (few : offset < 2 ^ 32) (small : most ≤ 2047) where
   abbrev now : ℕ
-  now = counted offset (n + most)
+  now = with_count offset (n + most)
 
   -- what is written before the branch
   abbrev pub ticked : List (ℕ × ℕ)
@@ -70,7 +70,7 @@ module _ (w : World) (u : State) (most n offset : ℕ) (o : Over w.code u) (long
       let e1 : List (ℕ × ℕ) = (15, now) ∷ [] in (
         refl,
         λ e. absurd (cc),
-        λ p. addi_value (moved u.regs p u) 15 15 (counted offset n) now (pos most) at (omega (arith, high, few, small)),
+        λ p. addi_value (moved u.regs p u) 15 15 (with_count offset n) now (pos most) at (omega (arith, high, few, small)),
         (
           refl,
           λ e. absurd (cc),
@@ -129,7 +129,7 @@ module _ (w : World) (u : State) (most n offset : ℕ) (o : Over w.code u) (long
     pub effects : List (ℕ × ℕ)
     pub temps : AllTemps effects
     pub walk : Walk (Quiet w) u (3 + call_steps land) (moved (writes effects u.regs) to u)
-    pub fifteen : slice_index (writes effects u.regs) 15 ≡ counted offset (n + most)
+    pub fifteen : slice_index (writes effects u.regs) 15 ≡ with_count offset (n + most)
     pub sixteen : slice_index (writes effects u.regs) 16 ≡ reg u SIGNATURE
     pub thirty : slice_index (writes effects u.regs) 30 ≡ a
 

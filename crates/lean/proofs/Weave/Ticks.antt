@@ -123,7 +123,7 @@ module _ (c : Counting) where
       max_le m n h k = max-le h k
     by _ = omega arith
 
-  -- so from no entry there are more steps to the next tick than those of a block and so many
+  -- so from any entry the steps to the next tick are at most `own`, those of a block, and the room
   pub few_most : (own : ℕ) (bs : List Block) → ((b : Block) → Among b bs → block_steps c.diverse c.land c.leader b ≤ own) → (a : ℕ) → most_at (rows bs) a ≤ own + c.room
   few_most own [] h a = omega arith
   few_most own (b ∷ bs) h a = by (b.start == a) refl (few_most own bs (λ d m. h d (inr m)) a) where

@@ -160,7 +160,7 @@ module _ (form : Form) (base : ℕ) (l : Lean) (leader : ℕ → Bool) (x y : �
     pub entry_same : (at t : ℕ) → entry_of false at (code_of (s x) d a bs) t ≡ entry_of false at (code_of (s y) d a bs) t
     entry_same at t = ap (λ rows. unwrap_or (entry_at rows t) (at + sum_of_sizes false (code_of (s x) d a bs) - 4)) (code_rows at) ∙ ap (λ n. unwrap_or (entry_at (rows_from false at (code_of (s y) d a bs)) t) (at + n - 4)) code_size
 
-  -- and where both know the same entries, the code is the same
+  -- if both know the same entries, the code is the same
   pub same_code : ((t : ℕ) → x t ≡ y t) → (d a : ℕ) (bs : List Block) → code_of (s x) d a bs ≡ code_of (s y) d a bs
   same_code e d a bs = ap (λ k. (s x).first d a ++ (k ++ stub)) (same bs) where
     block_same : (b : Block) → block_items (s x) b ≡ block_items (s y) b

@@ -7,7 +7,7 @@ use Rattle.listing.specs.Listing.{line as listed_line, lines as listed_lines, Is
 use Rattle.rv_text.specs.Text.{text_of}
 use Rattle.rv_asm.specs.Assembled.{Assembled}
 use Rattle.rv_asm.specs.Lines.{hash, newline, lines_of, statement, front_of, trim}
-use Rattle.listing.specs.WordTexts.{AreWords, words_file, said_in}
+use Rattle.listing.specs.WordTexts.{AreTextWords, words_file, said_in}
 use Rattle.listing.proofs.Texts.Joined.{split, split_one}
 use Rattle.listing.proofs.Texts.Kept.{Are32Bits, all_said, one_empty}
 use Rattle.listing.proofs.Texts.Line.{word_line}
@@ -76,7 +76,7 @@ bodies_say word (a ∷ addresses) h =
     λ i. first i ∷ rest i
 
 pub listings_assemble :
-    (f : ElfFile) (text : List ℕ) (listing : IsListing f text) → AreWords (map (word_at f) listing.addresses)
+    (f : ElfFile) (text : List ℕ) (listing : IsListing f text) → AreTextWords (map (word_at f) listing.addresses)
     → Assembled text (words_file (map (word_at f) listing.addresses))
 unfolding lines_of
 listings_assemble f text listing are = sayings_assemble words text are (record { said = ap said_in lines ∙ said }) where

@@ -9,7 +9,7 @@ use Rattle.std.proofs.lemmas.Fmt.{length-decimal-le, decimal_nonempty}
 use Rattle.std.proofs.lemmas.List.{length-replicate, length-append}
 use Rattle.std.proofs.Math.Nat.{pow-succ'}
 use Rattle.texts.specs.Printed.{hex_digits}
-use Rattle.texts.specs.Read.{read_on, digits as digits_in, number, dash}
+use Rattle.texts.specs.Read.{read_on, digits as digits_in, parsed_number, dash}
 use Rattle.rv_asm.specs.Operands.{immediate_in}
 
 -- ---- one digit
@@ -98,8 +98,8 @@ no_digit : (c b : ℕ) → is_ascii_digit c ≡ true → is_ascii_digit b ≡ fa
 no_digit c b h n = ne_eqb c b (λ e. true≢false (sym h ∙ (ap is_ascii_digit e ∙ n)))
 
 -- a text of decimal digits has no `0x` in front
-number_digits : (text : List ℕ) → list_all is_ascii_digit text ≡ true → number text ≡ digits_in 10 20 text
-unfolding number
+number_digits : (text : List ℕ) → list_all is_ascii_digit text ≡ true → parsed_number text ≡ digits_in 10 20 text
+unfolding parsed_number
 number_digits [] h = refl
 number_digits (a ∷ []) h = refl
 number_digits (a ∷ b ∷ text) h =
@@ -114,7 +114,7 @@ decimal_digits : (n : ℕ) → list_all is_ascii_digit (decimal n) ≡ true
 unfolding digits
 decimal_digits n = all_onto 10 (omega arith) (omega arith) is_ascii_digit 64 n [] decimal_glyph refl
 
-decimal_read : (n : ℕ) → n < 2 ^ 64 → number (decimal n) ≡ Some n
+decimal_read : (n : ℕ) → n < 2 ^ 64 → parsed_number (decimal n) ≡ Some n
 unfolding digits
 decimal_read n h =
     let few = length-decimal-le 20 n (omega arith) (omega arith) h in
@@ -122,12 +122,12 @@ decimal_read n h =
     ∙ (digits_are 10 20 (decimal n) (decimal_nonempty n h) few ∙ read_onto 10 (omega arith) (omega arith) 64 n [] h h)
 
 -- ---- immediates
-immediate_digits : (text : List ℕ) (n : ℕ) → list_all is_ascii_digit text ≡ true → number text ≡ Some n → immediate_in text ≡ Some (pos n)
-unfolding immediate_in number digits_in
+immediate_digits : (text : List ℕ) (n : ℕ) → list_all is_ascii_digit text ≡ true → parsed_number text ≡ Some n → immediate_in text ≡ Some (pos n)
+unfolding immediate_in parsed_number digits_in
 immediate_digits [] n h e = absurd (cc)
 immediate_digits (c ∷ text) n h e =
     let first = (and_parts (is_ascii_digit c) (list_all is_ascii_digit text) h).0 in
-    ap (λ t. cond t (option_map (λ m. neg_ℤ (pos m)) (number text)) (option_map pos (number (c ∷ text)))) (no_digit c dash first refl)
+    ap (λ t. cond t (option_map (λ m. neg_ℤ (pos m)) (parsed_number text)) (option_map pos (parsed_number (c ∷ text)))) (no_digit c dash first refl)
     ∙ ap (option_map pos) e
 
 -- a signed number of 64 bits

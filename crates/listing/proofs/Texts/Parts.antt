@@ -8,7 +8,7 @@ use Rattle.std.proofs.lemmas.List.Folds.{list_all-append}
 use Rattle.std.proofs.lemmas.List.Elements.{All-weaker}
 use Rattle.std.proofs.lemmas.List.Sums.{AllPass-from_list_all, list_all-from_AllPass, suffix_len_is}
 use Rattle.texts.specs.Read.{parted, around}
-use Rattle.rv_asm.specs.Lines.{is_blank, hash, newline, comma, opening, closing, trim, trim_start, trim_end, pair_in, triple_in, bracketed_in, trimmed, triple_from, triple_with, bracketed_from, bracketed_with}
+use Rattle.rv_asm.specs.Lines.{is_blank, hash, newline, comma, opening, closing, trim, trim_start, trim_end, pair_in, triple_in, bracketed_in, trimmed_halves, triple_from, triple_with, bracketed_from, bracketed_with}
 
 -- ---- tests of bytes
 -- the bytes of names, registers and numbers: digits, lower-case letters and `-`
@@ -154,7 +154,7 @@ pair_from : (a b c : List ℕ) → lacks comma a ≡ true → trim a ≡ c → I
 unfolding pair_in
 pair_from a b c h e t =
     let back = trim_space b t in
-    ap (option_map trimmed) (parted_at comma a (32 ∷ b) h) ∙ λ i. Some (e i, back i)
+    ap (option_map trimmed_halves) (parted_at comma a (32 ∷ b) h) ∙ λ i. Some (e i, back i)
 
 pub pair_is : (a b : List ℕ) → IsPart a → IsText b → pair_in (a ++ comma ∷ 32 ∷ b) ≡ Some (a, b)
 pair_is a b p t = pair_from a b a p.no_comma (trim_text a p.is) t

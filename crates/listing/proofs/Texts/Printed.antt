@@ -7,7 +7,7 @@ use Rattle.std.proofs.lemmas.Bool.{agree_below_at, eqb-true, leb-true}
 use Rattle.std.proofs.lemmas.Fmt.{decimal_nonempty, length_signed_le}
 use Rattle.std.proofs.lemmas.List.{length-append}
 use Rattle.texts.specs.Printed.{hex_digits, word_text}
-use Rattle.texts.specs.Read.{digits as digits_in, number, register}
+use Rattle.texts.specs.Read.{digits as digits_in, parsed_number, register}
 use Rattle.rv_text.specs.Text.{register_text, place_text, upper_text}
 use Rattle.rv_asm.specs.Lines.{comma, opening, closing, bracketed_in}
 use Rattle.rv_asm.specs.Operands.{register_in, immediate_in, raw_word_in}
@@ -139,7 +139,7 @@ pub record IsUpper (n : ℕ) : Type 0 where
   pub reads : immediate_in (upper_text n) ≡ Some (pos n)
 
 pub upper_is : (n : ℕ) → n < 2 ^ 20 → IsUpper n
-unfolding immediate_in number
+unfolding immediate_in parsed_number
 upper_is n h =
     let size = hex_length 4 n (omega arith) in
     record {

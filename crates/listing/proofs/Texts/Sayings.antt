@@ -13,12 +13,12 @@ use Rattle.rv_asm.specs.declared.given.Given.{Given}
 use Rattle.rv_asm.specs.declared.given.Given.TheVariants as given
 use Rattle.rv_asm.specs.declared.heads.Head.TheVariants.{Blank}
 use Rattle.rv_asm.specs.declared.place.Place.{Place}
-use Rattle.rv_asm.specs.Assembled.{head_in, place_behind, label_of, line_at, given_at, code_in, data_in, symbol_in, symbol_at, code_of, data_of, symbols_of, file_with, file_of, AreFaultless, Assembled}
+use Rattle.rv_asm.specs.Assembled.{head_in, place_behind, label_of, line_at, given_at, code_given, data_given, symbol_in, symbol_at, code_of_lines, data_of, symbols_of, file_of_given, file_of_lines, AreFaultless, Assembled}
 use Rattle.rv_asm.specs.Given.{address_at, given_by}
 use Rattle.rv_asm.specs.Lines.{lines_of, statement, leading_word, rest_in}
 use Rattle.rv_asm.specs.Steps.{one_if, next_place}
 use Rattle.rv_asm.proofs.Places.{place_push}
-use Rattle.listing.specs.WordTexts.{AreWords, words_file, has_some, said_in, SaysWords}
+use Rattle.listing.specs.WordTexts.{AreTextWords, words_file, has_some, said_in, SaysWords}
 use Rattle.listing.proofs.Texts.Line.{IsSaid, said_line, blank_line}
 
 -- ---- what passes a test
@@ -57,7 +57,7 @@ unfolding gather
 all_empty f zero none = refl
 all_empty f (suc n) none = ap (λ xs. xs ++ f n) (all_empty f n (λ i h. none i (omega arith))) ∙ none n (omega arith)
 
-module _ (ls : List (List ℕ)) (words : List ℕ) (are : AreWords words) (says : said_in ls ≡ map text_of words) where
+module _ (ls : List (List ℕ)) (words : List ℕ) (are : AreTextWords words) (says : said_in ls ≡ map text_of words) where
   -- how many of the first n lines say something
   said : ℕ → ℕ
   said n = length (filter has_some (take n (map statement ls)))
@@ -149,19 +149,19 @@ module _ (ls : List (List ℕ)) (words : List ℕ) (are : AreWords words) (says 
       ap (λ h. given_by (label_of ls) (place_behind (take n ls)) n h (leading_word line) (rest_in line)) b.head
 
   -- ---- all lines
-  codes_so_far : (n : ℕ) → n ≤ length ls → code_of ls n ≡ take (said n) words
-  unfolding code_of gather said
+  codes_so_far : (n : ℕ) → n ≤ length ls → code_of_lines ls n ≡ take (said n) words
+  unfolding code_of_lines gather said
   codes_so_far zero h = refl
-  codes_so_far (suc n) h = ap (λ ws. ws ++ code_in (given_at ls n)) (codes_so_far n (omega arith)) ∙ by (turn n (omega arith)) where
-    by : Turn n → take (said n) words ++ code_in (given_at ls n) ≡ take (said (suc n)) words
+  codes_so_far (suc n) h = ap (λ ws. ws ++ code_given (given_at ls n)) (codes_so_far n (omega arith)) ∙ by (turn n (omega arith)) where
+    by : Turn n → take (said n) words ++ code_given (given_at ls n) ≡ take (said (suc n)) words
     by (word w) =
-        ap (λ g. take (said n) words ++ code_in g) (word_given n (omega arith) w)
+        ap (λ g. take (said n) words ++ code_given g) (word_given n (omega arith) w)
         ∙ (sym (take_more words (said n) 0 w.below) ∙ ap (λ k. take k words) (sym w.more))
     by (blank b) =
-        ap (λ g. take (said n) words ++ code_in g) (blank_given n b)
+        ap (λ g. take (said n) words ++ code_given g) (blank_given n b)
         ∙ (append-nil (take (said n) words) ∙ ap (λ k. take k words) (sym b.same))
 
-  code_is : code_of ls (length ls) ≡ words
+  code_is : code_of_lines ls (length ls) ≡ words
   code_is = codes_so_far (length ls) (omega arith) ∙ take_all (said (length ls)) words (omega (arith, said_all))
 
   -- what holds of words and of nothing holds of each line
@@ -173,7 +173,7 @@ module _ (ls : List (List ℕ)) (words : List ℕ) (are : AreWords words) (says 
 
   no_values : data_of ls (length ls) ≡ []
   unfolding data_of
-  no_values = all_empty (λ n. data_in (given_at ls n)) (length ls) (each_given data_in [] (λ w. refl) refl)
+  no_values = all_empty (λ n. data_given (given_at ls n)) (length ls) (each_given data_given [] (λ w. refl) refl)
 
   no_labels : symbols_of ls (length ls) ≡ []
   unfolding symbols_of
@@ -182,11 +182,11 @@ module _ (ls : List (List ℕ)) (words : List ℕ) (are : AreWords words) (says 
   faultless : AreFaultless ls (length ls)
   faultless = each_given is_ok true (λ w. refl) refl
 
-  file_is : file_of ls ≡ file_with words [] []
-  unfolding file_of
-  file_is = λ i. file_with (code_is i) (no_values i) (no_labels i)
+  file_is : file_of_lines ls ≡ file_of_given words [] []
+  unfolding file_of_lines
+  file_is = λ i. file_of_given (code_is i) (no_values i) (no_labels i)
 
-pub sayings_assemble : (words text : List ℕ) → AreWords words → SaysWords text words → Assembled text (words_file words)
+pub sayings_assemble : (words text : List ℕ) → AreTextWords words → SaysWords text words → Assembled text (words_file words)
 sayings_assemble words text are says =
     let ls = lines_of text in
     let code = code_is ls words are says.said in

@@ -6,14 +6,14 @@ use Rattle.std.proofs.lemmas.List.Elements.{All-tail, All-map}
 use Rattle.rv_text.specs.Text.{text_of}
 use Rattle.rv_asm.specs.Assembled.{Assembled}
 use Rattle.rv_asm.specs.Lines.{newline, lines_of, statement}
-use Rattle.listing.specs.WordTexts.{AreWords, words_file, words_text, IsTextOf, said_in, SaysWords}
+use Rattle.listing.specs.WordTexts.{AreTextWords, words_file, words_text, IsTextOf, said_in, SaysWords}
 use Rattle.listing.proofs.Texts.Joined.{split, last_line, ended_line, split_lines, join_short}
 use Rattle.listing.proofs.Texts.Kept.{Are32Bits, all_said, one_empty}
 use Rattle.listing.proofs.Texts.Line.{word_line}
 use Rattle.listing.proofs.Texts.Parts.{lacks}
 use Rattle.listing.proofs.Texts.Sayings.{sayings_assemble}
 
-module _ (words : List ℕ) (are : AreWords words) where
+module _ (words : List ℕ) (are : AreTextWords words) where
   abbrev lines : List (List ℕ)
   lines = map text_of words
 
@@ -53,9 +53,9 @@ module _ (words : List ℕ) (are : AreWords words) where
   unfolding words_text
   text_short = omega (arith, join_short lines short, length-map words text_of, are.few)
 
-pub words_assemble : (words text : List ℕ) → AreWords words → IsTextOf words text → Assembled text (words_file words)
+pub words_assemble : (words text : List ℕ) → AreTextWords words → IsTextOf words text → Assembled text (words_file words)
 words_assemble words text are is = sayings_assemble words text are (text_says words are text is)
 
-pub texts_short : (words text : List ℕ) → AreWords words → IsTextOf words text → length text ≤ 67108864
+pub texts_short : (words text : List ℕ) → AreTextWords words → IsTextOf words text → length text ≤ 67108864
 texts_short words text are (inl e) = omega (arith, ap length e, text_short words are)
 texts_short words text are (inr e) = omega (arith, ap length e, length-append (words_text words) (newline ∷ []), text_short words are)

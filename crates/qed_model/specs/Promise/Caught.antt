@@ -1,4 +1,4 @@
--- What is promised of the output's run with changes: within the bound it is found out, or has ended, or nothing of it is left.
+-- A promise on the output's run with changes: within the bound it has fired, has ended, or nothing of them is left.
 use Rattle.std.specs.Prelude.{◌≡◌, ℕ, ◌+◌, ◌≤◌, ◌⊎◌, Bool, cond, List, [], ◌∷◌, Option, Some}
 use Rattle.qed_model.specs.declared.change.Change.{Change}
 use Rattle.qed_model.specs.declared.bounds.Bounds.{Bounds}
@@ -23,13 +23,13 @@ pub record Same (spans : List (ℕ × ℕ)) (u v : State) : Type 0 where
   pub all : u ≡ v
   pub originals : SameOriginal spans u v
 
--- the changed run has fired, or has ended, or is the run without changes again; the last change was after t steps, and b are left
+-- the changed run has fired, has ended, or is the unchanged run again, by step t + b; the last change was after t steps
 pub record Settles (spans : List (ℕ × ℕ)) (t b : ℕ) (changed unchanged : ℕ → State) : Type 0 where
   pub steps : ℕ
   pub within : steps ≤ t + b
   pub settled : ((changed steps).outcome ≡ Fired) ⊎ (((changed steps).outcome ≡ Ended) ⊎ ((t ≤ steps) × Same spans (changed steps) (unchanged steps)))
 
--- for any registers of the output's start and any changes of original places that are open, as far as the input's run is steady
+-- for any registers of the output's start and any changes of open original places, as long as the input's run is steady
 pub record Caught (f g : Program) (reached : ℕ → Bool) (spans : List (ℕ × ℕ)) (bounds : Bounds) : Type 0 where
   pub settles : (regs : List ℕ) (cs : List Change) (b : ℕ) →
       AreStartRegs regs → Ordered cs → AllOpen spans (after_output g regs) cs → bound_of bounds cs ≡ Some b →

@@ -27,7 +27,7 @@ unfoldable pub with_changes : List Change → ℕ → State → State
 with_changes [] n s = s
 with_changes (c ∷ cs) n s = with_changes cs n (cond (c.step == n) (changed c s) s)
 
--- the state after n steps, where the changes of each number of steps up to n were made when so many had been made
+-- the state after n steps; a change with the step k is made after k steps, for each k up to n
 unfoldable pub changed_run : State → List Change → ℕ → State
 changed_run s cs zero = with_changes cs 0 s
 changed_run s cs (suc n) = with_changes cs (suc n) (step (changed_run s cs n))

@@ -1,5 +1,5 @@
--- Where a register is closed: between its guard and the use that the guard checks (this project's profile). There a wrong value may
--- reach memory or a branch before any check; everywhere else a register is open.
+-- Closed registers: between its guard and the use that the guard checks a register is closed (this project's profile).
+-- There a wrong value may reach memory or a branch before any check. Everywhere else a register is open.
 use Rattle.std.specs.Prelude.{◌≡◌, ℕ, ◌+◌, ◌%◌, ◌^◌, Bool, true, false, not, cond, ◌&&◌, ◌||◌, nat_le, ◌==◌, ℤ, pos, negsuc}
 use Rattle.rv_isa.specs.declared.profile.TheConstants.{LAST_ORIGINAL, PAIR_DISTANCE, TEMPORARY}
 use Rattle.rv_isa.specs.declared.kind.Kind.{Kind}
@@ -25,8 +25,8 @@ abbrev pub is_bne : Kind → Bool
 is_bne Bne = true
 is_bne _ = false
 
--- an instruction of a class uses a register: as the base of an access, as a stored value, in a branch on x0 to x13, or where ADDI
--- takes it into x30
+-- an instruction of a class uses a register: as the base of an access, as a stored value, in a branch on x0 to x13, or
+-- in an ADDI that copies it to x30
 abbrev pub uses_as : Class → ℕ → Ins → Bool
 uses_as class.Load r i = i.rs1 == r
 uses_as class.Store r i = (i.rs1 == r) || (i.rs2 == r)
@@ -48,8 +48,8 @@ is_eight (negsuc n) = false
 abbrev pub is_guard_kind : Ins → Bool
 is_guard_kind i = (is_beq i.kind && is_eight i.imm) || is_bne i.kind
 
--- what was fetched compares another of x1 to x13 with its pair: BEQ skips the next word where they are equal, BNE goes elsewhere where
--- they differ
+-- what was fetched compares another of x1 to x13 with its pair: BEQ skips the next word if they are equal, BNE goes
+-- elsewhere if they differ
 unfoldable pub guards_other : ℕ → Fetched → Bool
 guards_other r (Known i) = is_guard_kind i && ((i.rs2 == i.rs1 + PAIR_DISTANCE) && (not (i.rs1 == r) && (nat_le 1 i.rs1 && nat_le i.rs1 LAST_ORIGINAL)))
 guards_other r _ = false
@@ -69,17 +69,18 @@ abbrev pub is_on_pairs : Ins → Fetched → Bool
 is_on_pairs i (Known j) = is_branch (class_of j.kind) && ((j.rs1 == pair i.rs1) && (j.rs2 == pair i.rs2))
 is_on_pairs i _ = false
 
--- a branch that is checked behind it, by one on the pairs: a wrong value may lead it astray, but reaches nothing before that check
+-- a branch checked behind it, by one on the pairs: a wrong value may lead it astray, but reaches nothing before that
 unfoldable pub is_checked : Fetched → Fetched → Bool
 is_checked (Known i) behind = is_branch (class_of i.kind) && is_on_pairs i behind
 is_checked _ behind = false
 
--- a register is closed at an address of the code: it is one of x1 to x13, and used there, but by no branch that is checked behind it, or
--- used behind the guard of another that stands there
+-- a register is closed at an address of the code: it is one of x1 to x13, and used there, but not by a branch that is
+-- checked behind it, or used behind the guard of another that stands there
 abbrev pub closed_at : (ℕ → Fetched) → ℕ → ℕ → Bool
 closed_at code a r =
     (nat_le 1 r && nat_le r LAST_ORIGINAL)
-    && ((uses r (code a) && not (is_checked (code a) (code ((a + 4) % 2 ^ 64)))) || (guards_other r (code a) && uses r (code ((a + guard_bytes (code a)) % 2 ^ 64))))
+    && ((uses r (code a) && not (is_checked (code a) (code ((a + 4) % 2 ^ 64))))
+    || (guards_other r (code a) && uses r (code ((a + guard_bytes (code a)) % 2 ^ 64))))
 
 -- a register is closed in a state
 abbrev pub is_closed : State → ℕ → Bool

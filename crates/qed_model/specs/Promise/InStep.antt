@@ -1,4 +1,4 @@
--- What is promised of changes, of jumps and of the end, as long as the input is steady for the steps that the output has made of it.
+-- Promises on changes, jumps and the end, as long as the input is steady for the steps that the output has made of it.
 use Rattle.std.specs.Prelude.{◌≡◌, ◌≢◌, ◌⊎◌, ℕ, ◌+◌, ◌<◌, ◌≤◌, Bool, false, List, Some}
 use Rattle.qed_model.specs.declared.bounds.Bounds.{Bounds}
 use Rattle.qed_model.specs.declared.change.Change.{Change}
@@ -23,11 +23,12 @@ pub record SameBeside (spans : List (ℕ × ℕ)) (u v : State) : Type 0 where
   pub regs : (r : ℕ) → 14 ≤ r → reg u r ≡ reg v r
   pub bytes : (q : ℕ) → is_in_any spans q ≡ false → byte_at u.memory q ≡ byte_at v.memory q
 
--- at its step m a run with changes, the last of them after t steps, has fired, or has ended, or nothing is left of the changes. If it has ended, the
--- run without them ends at that step too, and nothing is wrong beside x1 to x13 and the data of the original half
+-- at its step m a run with changes, the last after t steps, has fired, has ended, or nothing is left of them. If it has
+-- ended, so does the run without them at step m, and only x1 to x13 and the data of the original half may be wrong
 pub data IsSettled (spans : List (ℕ × ℕ)) (t m : ℕ) (changed unchanged : ℕ → State) : Type 0 where
   fires : (changed m).outcome ≡ Fired → IsSettled spans t m changed unchanged
-  ends : (changed m).outcome ≡ Ended → ((k : ℕ) → k ≤ m → (changed k).outcome ≡ (unchanged k).outcome) → SameBeside spans (changed m) (unchanged m) → IsSettled spans t m changed unchanged
+  ends : (changed m).outcome ≡ Ended → ((k : ℕ) → k ≤ m → (changed k).outcome ≡ (unchanged k).outcome)
+      → SameBeside spans (changed m) (unchanged m) → IsSettled spans t m changed unchanged
   gone : t ≤ m → Same spans (changed m) (unchanged m) → IsSettled spans t m changed unchanged
 
 -- it is within b steps behind the last change
@@ -44,24 +45,29 @@ pub record CaughtInStep (f g : Program) (reached : ℕ → Bool) (spans : List (
       Covers f g reached first bound regs (last_step cs + b) → (after_output g regs (last_step cs)).outcome ≡ Going →
       SettlesWithin spans (last_step cs) b (changed_run (start g regs) cs) (after_output g regs)
 
--- if the output stands at the entry of an address, the same state at the entry of another fires within `most` steps. The input is steady for the steps
--- that are made of it, or for t of its own
+-- if the output stands at the entry of an address, its state with the pc at the entry of another fires within `most`
+-- steps. The input is steady for the steps that are made of it, or for t of its own
 pub record LandedInStep (most : ℕ) (f g : Program) (reached : ℕ → Bool) (entries : List EntryRow) (first bound : ℕ) : Type 0 where
   pub fires :
-      (regs : List ℕ) (t a c here there : ℕ) → AreStartRegs regs → (Covers f g reached first bound regs (t + 1)) ⊎ Steady f reached t → IsEntry entries a here → IsEntry entries c there → a ≢ c
+      (regs : List ℕ) (t a c here there : ℕ) → AreStartRegs regs → (Covers f g reached first bound regs (t + 1)) ⊎ Steady f reached t
+      → IsEntry entries a here → IsEntry entries c there → a ≢ c
       → (after_output g regs t).outcome ≡ Going → (after_output g regs t).pc ≡ here → Fires most (placed_at there (after_output g regs t))
 
--- where the output first ends after e steps, and the changes leave `last` steps, the changed run has fired after e steps, or has ended with nothing
--- of them left
+-- if the output first ends after e steps, and the changes leave `last` steps, the changed run has fired after e steps,
+-- or has ended with nothing of them left
 pub record CleanInStep (f g : Program) (reached : ℕ → Bool) (spans : List (ℕ × ℕ)) (last first bound : ℕ) : Type 0 where
   pub settles : (regs : List ℕ) (cs : List Change) (e : ℕ) →
       AreStartRegs regs → Ordered cs → AllOpen spans (after_output g regs) cs → last_step cs + last ≤ e →
       (after_output g regs e).outcome ≡ Ended → ((k : ℕ) → k < e → (after_output g regs k).outcome ≢ Ended) → Covers f g reached first bound regs e →
-      ((changed_run (start g regs) cs e).outcome ≡ Fired) ⊎ (((changed_run (start g regs) cs e).outcome ≡ Ended) × Same spans (changed_run (start g regs) cs e) (after_output g regs e))
+      ((changed_run (start g regs) cs e).outcome ≡ Fired)
+      ⊎ (((changed_run (start g regs) cs e).outcome ≡ Ended) × Same spans (changed_run (start g regs) cs e) (after_output g regs e))
 
 -- ---- the law: what counts the output's steps follows
 pub record PromisesFollow : Type 0 where
   pub kept : (f g : Program) (reached : ℕ → Bool) (distance first bound : ℕ) → KeptInStep f g reached distance first bound → Kept f g reached first bound
-  pub caught : (f g : Program) (reached : ℕ → Bool) (spans : List (ℕ × ℕ)) (bounds : Bounds) (first bound : ℕ) → CaughtInStep f g reached spans bounds first bound → Caught f g reached spans bounds
-  pub landed : (most : ℕ) (f g : Program) (reached : ℕ → Bool) (entries : List EntryRow) (first bound : ℕ) → LandedInStep most f g reached entries first bound → Landed most f g reached entries
-  pub clean : (f g : Program) (reached : ℕ → Bool) (spans : List (ℕ × ℕ)) (last first bound : ℕ) → CleanInStep f g reached spans last first bound → Clean f g reached spans last
+  pub caught : (f g : Program) (reached : ℕ → Bool) (spans : List (ℕ × ℕ)) (bounds : Bounds) (first bound : ℕ)
+      → CaughtInStep f g reached spans bounds first bound → Caught f g reached spans bounds
+  pub landed : (most : ℕ) (f g : Program) (reached : ℕ → Bool) (entries : List EntryRow) (first bound : ℕ)
+      → LandedInStep most f g reached entries first bound → Landed most f g reached entries
+  pub clean : (f g : Program) (reached : ℕ → Bool) (spans : List (ℕ × ℕ)) (last first bound : ℕ)
+      → CleanInStep f g reached spans last first bound → Clean f g reached spans last

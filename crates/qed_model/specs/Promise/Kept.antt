@@ -35,7 +35,7 @@ pub record IsSteady (reached : ℕ → Bool) (s : State) (n : ℕ) : Type 0 wher
   pub no_trap : NotTrapped (run s n)
   pub leads : (k : ℕ) → k < n → LeadsToReached reached (run s k)
 
--- so are the first n of the input
+-- the first n steps of the input are steady
 abbrev pub Steady : Program → (ℕ → Bool) → ℕ → Type 0
 Steady f reached n = IsSteady reached (start f zeros) n
 
@@ -55,23 +55,23 @@ pub record Halves (f : Program) (s u : State) : Type 0 where
   pub bytes : (q : ℕ) → is_mapped f q ≡ true → byte_at u.memory q ≡ byte_at s.memory q
 
 -- ---- the promise
--- after some steps of the output, within the bound, it has the values that the input has after n steps; it has ended exactly
--- where the input has
+-- after some steps of the output, within the bound, it has the values that the input has after n steps; it has ended
+-- exactly if the input has
 pub record Preserved (f g : Program) (first bound n : ℕ) (regs : List ℕ) : Type 0 where
   pub steps : ℕ
   pub within : steps ≤ first + (n + 1) * bound
   pub halves : Halves f (after_input f n) (after_output g regs steps)
   pub ends : ((after_output g regs steps).outcome ≡ Ended) ↔ ((after_input f n).outcome ≡ Ended)
 
--- after m steps of the output no check has fired and nothing has trapped; where it has ended, the input has ended too, with
--- the same values
+-- after m steps of the output no check has fired and nothing has trapped; if it has ended, the input has ended too,
+-- with equal values
 pub record NoFalseAlarm (f g : Program) (m : ℕ) (regs : List ℕ) : Type 0 where
   pub no_check : (after_output g regs m).outcome ≢ Fired
   pub no_trap : NotTrapped (after_output g regs m)
   pub ended : (after_output g regs m).outcome ≡ Ended → ((after_input f m).outcome ≡ Ended) × Halves f (after_input f m) (after_output g regs m)
 
--- both, for any registers of the output's start, and as far as the input's run is steady; `first` is the bound of what runs
--- first, and `bound` that of a piece, in steps
+-- both, for any registers of the output's start, as long as the input's run is steady. In steps, `first` bounds what
+-- runs first, and `bound` a piece
 pub record Kept (f g : Program) (reached : ℕ → Bool) (first bound : ℕ) : Type 0 where
   pub values : (regs : List ℕ) (n : ℕ) → AreStartRegs regs → Steady f reached n → Preserved f g first bound n regs
   pub quiet : (regs : List ℕ) (m : ℕ) → AreStartRegs regs → Steady f reached m → NoFalseAlarm f g m regs

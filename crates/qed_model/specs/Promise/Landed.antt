@@ -11,7 +11,7 @@ abbrev pub IsEntry : List EntryRow → ℕ → ℕ → Type 0
 IsEntry [] a e = ⊥
 IsEntry (row ∷ rows) a e = ((row.input ≡ a) × (row.output ≡ e)) ⊎ IsEntry rows a e
 
--- within so many steps a check has fired
+-- within `most` steps a check has fired
 pub record Fires (most : ℕ) (s : State) : Type 0 where
   pub steps : ℕ
   pub within : steps ≤ most
@@ -21,8 +21,8 @@ pub record Fires (most : ℕ) (s : State) : Type 0 where
 abbrev pub placed_at : ℕ → State → State
 placed_at pc s = moved s.regs pc s
 
--- for any registers of the output's start, and as far as the input's run is steady: where the output stands at the entry of an address,
--- the same state at the entry of another fires within so many steps
+-- for any registers of the output's start, as long as the input's run is steady: if the output stands at the entry of
+-- an address, its state with the pc at the entry of another fires within `most` steps
 pub record Landed (most : ℕ) (f g : Program) (reached : ℕ → Bool) (entries : List EntryRow) : Type 0 where
   pub fires :
       (regs : List ℕ) (t a c here there : ℕ) → AreStartRegs regs → Steady f reached t → IsEntry entries a here → IsEntry entries c there → a ≢ c

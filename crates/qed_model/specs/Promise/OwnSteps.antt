@@ -27,15 +27,17 @@ has_ended _ = false
 abbrev pub has_byte : Program → State → State → ℕ → Bool
 has_byte f s u q = not (is_mapped f q) || (is_some (get u.memory q) && (byte_at u.memory q == byte_at s.memory q))
 
--- the output's state u has the values of the input's state s in x1 to x13 and at each address, and has ended exactly if s has
+-- the output's state u has the values of the input's s in x1 to x13 and at each address, and has ended exactly if s has
 unfoldable pub has_values : Program → State → State → Bool
-has_values f s u = (each_below LAST_ORIGINAL (λ r. reg u (r + 1) == reg s (r + 1)) && each_below (2 ^ 64) (has_byte f s u)) && cond (has_ended s.outcome) (has_ended u.outcome) (not (has_ended u.outcome))
+has_values f s u = (each_below LAST_ORIGINAL (λ r. reg u (r + 1) == reg s (r + 1)) && each_below (2 ^ 64) (has_byte f s u))
+    && cond (has_ended s.outcome) (has_ended u.outcome) (not (has_ended u.outcome))
 
--- the first step of the output behind the one for n - 1 at which it has the input's values after n steps, if there is one within first + (n + 1) * bound
+-- the output's first step behind that of n - 1 with the values of n input steps, if within first + (n + 1) * bound
 unfoldable pub arrival : Program → Program → ℕ → ℕ → List ℕ → ℕ → ℕ
 arrival f g first bound regs zero = first_from (λ m. has_values f (after_input f 0) (after_output g regs m)) (first + bound) 0
 arrival f g first bound regs (suc n) =
-    first_from (λ m. has_values f (after_input f (suc n)) (after_output g regs m)) (first + (suc n + 1) * bound - (arrival f g first bound regs n + 1)) (arrival f g first bound regs n + 1)
+    first_from (λ m. has_values f (after_input f (suc n)) (after_output g regs m))
+    (first + (suc n + 1) * bound - (arrival f g first bound regs n + 1)) (arrival f g first bound regs n + 1)
 
 -- ---- Kept, in step
 -- the duplicate half has the input's values: x17 to x29, and the bytes at this distance from those that the input maps
@@ -43,15 +45,17 @@ pub record Duplicates (f : Program) (distance : ℕ) (s u : State) : Type 0 wher
   pub regs : (r : ℕ) → 1 ≤ r → r ≤ LAST_ORIGINAL → reg u (r + PAIR_DISTANCE) ≡ reg s r
   pub bytes : (q : ℕ) → is_mapped f q ≡ true → byte_at u.memory (q + distance) ≡ byte_at s.memory q
 
--- the output comes to the input's states in their order, to each within the bound; up to there no check fires and nothing traps; it ends
--- exactly if the input does, and then both halves have the input's values
+-- the output comes to the input's states in their order, to each within the bound; up to there no check fires and
+-- nothing traps; it ends exactly if the input does, and then both halves have the input's values
 pub record Follows (f g : Program) (reached : ℕ → Bool) (distance first bound : ℕ) (regs : List ℕ) : Type 0 where
   pub grows : (n : ℕ) → arrival f g first bound regs n < arrival f g first bound regs (suc n)
   pub within : (n : ℕ) → arrival f g first bound regs n ≤ first + (n + 1) * bound
   pub halves : (n : ℕ) → Steady f reached n → Halves f (after_input f n) (after_output g regs (arrival f g first bound regs n))
   pub ends : (n : ℕ) → Steady f reached n → ((after_output g regs (arrival f g first bound regs n)).outcome ≡ Ended) ↔ ((after_input f n).outcome ≡ Ended)
-  pub quiet : (n m : ℕ) → Steady f reached n → m ≤ arrival f g first bound regs n → ((after_output g regs m).outcome ≢ Fired) × NotTrapped (after_output g regs m)
-  pub twice : (n : ℕ) → Steady f reached n → (after_input f n).outcome ≡ Ended → Duplicates f distance (after_input f n) (after_output g regs (arrival f g first bound regs n))
+  pub quiet : (n m : ℕ) → Steady f reached n → m ≤ arrival f g first bound regs n
+      → ((after_output g regs m).outcome ≢ Fired) × NotTrapped (after_output g regs m)
+  pub twice : (n : ℕ) → Steady f reached n → (after_input f n).outcome ≡ Ended
+      → Duplicates f distance (after_input f n) (after_output g regs (arrival f g first bound regs n))
 
 -- for any registers of the output's start
 abbrev pub KeptInStep : Program → Program → (ℕ → Bool) → ℕ → ℕ → ℕ → Type 0

@@ -16,13 +16,13 @@ abbrev pub IsBodyAt : ElfFile → ℕ → List Ins → Type 0
 IsBodyAt f a [] = Unit {0}
 IsBodyAt f a (i ∷ is) = (instruction_at f a ≡ Some i) × (is_end (class_of i.kind) ≡ false) × IsBodyAt f (a + 4) is
 
--- how a body of n instructions stops at an address: before an end, which is no leader where the body has an instruction; or, with an
--- instruction, before a leader or an address that is not code
+-- how a body of n instructions stops at an address: before an end, which is not a leader if the body has an
+-- instruction; or, with an instruction, before a leader or an address that is not code
 abbrev pub StopsAt : ElfFile → Options → End → ℕ → ℕ → Type 0
 StopsAt f o (Stops i) n a = (instruction_at f a ≡ Some i) × (is_end (class_of i.kind) ≡ true) × ((n ≡ 0) ⊎ (IsLeader f o a → ⊥))
 StopsAt f o Falls n a = (1 ≤ n) × (IsLeader f o a ⊎ (is_code f a ≡ false))
 
--- the block that begins at a leader: no leader stands inside of its body, which is cut into pieces of at most `inst_max` instructions
+-- a leader's block: no leader stands inside its body, which is cut into pieces of at most `inst_max` instructions
 pub record IsLeaderBlock (f : ElfFile) (o : Options) (b : Block) : Type 0 where
   pub leader : IsLeader f o b.start
   pub body : List Ins
@@ -61,7 +61,7 @@ IsEntered f o a = (o.entries ≡ entries.Reached) × HasIndirect f × IsReached 
 abbrev pub IsMarked : ElfFile → Options → Block → Type 0
 IsMarked f o b = (b.reached ≡ true) ↔ IsEntered f o b.start
 
--- each leader has its block, where the code has a JALR and all have entries each code address has one, and there is no other
+-- each leader has its block; so has each code address if the code has a JALR and all have entries; no other has one
 pub record AreBlocks (f : ElfFile) (o : Options) (blocks : List Block) : Type 0 where
   pub ascend : AllPairs (λ b c. b.start < c.start) blocks
   pub each : All (IsBlockOf f o) blocks

@@ -4,18 +4,18 @@ use Rattle.qed_model.specs.declared.steps.TheConstants.{INSTRUCTION_STEPS, DIVER
 use Rattle.qed_model.specs.declared.bounds.Shape.{Shape}
 use Rattle.qed_model.specs.declared.bounds.Bounds.{Bounds}
 
--- a visited word, of so many data words in so many ranges: 7 steps and 3 for each range, of which one counts where there is no word
+-- a visited word, by the data words and the ranges: 7 steps, and 3 for each range; without words one range counts
 abbrev pub visit_bound : ℕ → ℕ → ℕ
 visit_bound zero ranges = 10
 visit_bound (suc n) ranges = 7 + 3 * ranges
 
--- the longest piece: 3 steps of its entry, `cost` for each of at most `most` instructions, 13 comparisons, `round` visited words,
--- and 14 of the longest leave
+-- the longest piece: 3 steps of its entry, `cost` for each of at most `most` instructions, 13 comparisons, `round`
+-- visited words, and 14 of the longest leave
 abbrev pub piece_bound : ℕ → ℕ → ℕ → ℕ → ℕ → ℕ
 piece_bound cost most words ranges round = 30 + cost * most + visit_bound words ranges * round
 
--- what stands before an ECALL: nothing, or with the sweep 2 steps for each data range, 8 for each data word, 13 comparisons, and the
--- ECALL once more
+-- what stands before an ECALL: nothing, or with the sweep 2 steps for each data range, 8 for each data word, 13
+-- comparisons, and the ECALL once more
 abbrev pub end_bound : Bool → ℕ → ℕ → ℕ
 end_bound sweep ranges words = cond sweep (2 * ranges + 8 * words + 14) 0
 
@@ -27,7 +27,7 @@ start_bound far sweep ranges words = cond far 33 32 + end_bound sweep ranges wor
 abbrev pub register_bound : ℕ → ℕ → ℕ
 register_bound start piece = start + 2 * piece
 
--- a changed data word, of `words` of them: a whole round of visits and two pieces more; none where there is no data word
+-- a changed data word, of `words` of them: a whole round of visits and two pieces more; None without data words
 abbrev pub word_bound : ℕ → ℕ → ℕ → ℕ → Option ℕ
 word_bound zero round start piece = None
 word_bound (suc n) round start piece = Some (start + ((suc n + round - 1) / round + 2) * piece)

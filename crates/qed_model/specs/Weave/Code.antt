@@ -28,7 +28,7 @@ pub record AreUnmarked (s : Sequences) : Type 0 where
   pub piece : (is : List Ins) (at : ℕ) → NoMarks (s.piece is at)
   pub leave : (e : End) (at : ℕ) → NoMarks (s.leave e at)
 
--- those of a form
+-- the sequences of a form
 abbrev pub sequences : Form → Sequences
 sequences form = record { first = λ d a. prologue d form.spans a; enter = check_sign; piece = piece form; leave = leave form }
 

@@ -30,7 +30,7 @@ spent_as _ = 3
 abbrev pub spent : Ins → ℕ
 spent i = cond (is_auipc i.kind) 3 (spent_as (class_of i.kind))
 
--- and of a mirror part of the same kind
+-- the most steps of a mirror part of the same kind
 abbrev pub mirror_steps_as : Class → ℕ
 mirror_steps_as class.Compute = 1
 mirror_steps_as class.Load = 2

@@ -1,8 +1,10 @@
--- Other mirror parts: most computing instructions have a mirror part of other kinds than their own, so that a unit that is wrong
--- in the same way twice gives two different results.
+-- Other mirror parts: most computing instructions have a mirror part of other kinds than their own, so that a unit that
+-- is wrong twice in one way gives two different results.
 use Rattle.std.specs.Prelude.{◌≡◌, ℕ, ◌/◌, ◌%◌, ◌^◌, Bool, false, true, List, [], ◌∷◌, ◌++◌, ℤ, pos, negsuc}
 use Rattle.rv_isa.specs.declared.class.Class.TheVariants as class
-use Rattle.machine.specs.Table.{Ins, Lui, Auipc, Addi, Slti, Sltiu, Xori, Ori, Andi, Slli, Srli, Srai, Add, Sub, Sll, Slt, Sltu, Xor, Srl, Sra, Or, And, Addiw, Slliw, Srliw, Sraiw, Addw, Subw, Sllw, Srlw, Sraw, Mul, Mulh, Mulhsu, Mulhu, Div, Divu, Rem, Remu, Mulw, Divw, Divuw, Remw, Remuw, Kind, ins}
+use Rattle.machine.specs.Table.{Ins, Lui, Auipc, Addi, Slti, Sltiu, Xori, Ori, Andi, Slli, Srli, Srai, Add, Sub, Sll, Slt, Sltu, Xor, Srl, Sra, Or, And}
+use Rattle.machine.specs.Table.{Addiw, Slliw, Srliw, Sraiw, Addw, Subw, Sllw, Srlw, Sraw, Mul, Mulh, Mulhsu, Mulhu, Div, Divu, Rem, Remu, Mulw, Divw, Divuw}
+use Rattle.machine.specs.Table.{Remw, Remuw, Kind, ins}
 use Rattle.machine.specs.Values.{wrapped, floor_shift}
 pub use Rattle.qed_model.specs.declared.diverse.Place.{Place}
 pub use Rattle.qed_model.specs.declared.diverse.Place.TheVariants.{X0, RD, RS1, RS2, X30, X31}

@@ -14,7 +14,14 @@ mirror_of other = cond other diverse mirrored
 
 -- what the new code depends on besides the blocks, in the near or in the far form
 abbrev pub form_of : ElfFile → Options → Bool → Form
-form_of f o far = record { spans = data_ranges (image_of f); round = o.round; far = far; sweep = o.sweep; mirror = mirror_of o.diverse; cost = cost_of o.diverse }
+form_of f o far = record {
+  spans = data_ranges (image_of f);
+  round = o.round;
+  far = far;
+  sweep = o.sweep;
+  mirror = mirror_of o.diverse;
+  cost = cost_of o.diverse;
+}
 
 -- what the bounds depend on
 abbrev pub shape_of : ElfFile → Options → Bool → Shape

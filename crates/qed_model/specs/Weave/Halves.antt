@@ -1,5 +1,5 @@
--- The two halves of the output's state against the input's states (this project's profile): x1 to x13 and the bytes of the input
--- in place are the original half, x17 to x29 and the bytes at the distance d are the duplicate half.
+-- The halves of the output's state against the input's states (this project's profile). The original half is x1 to x13
+-- and the bytes of the input in place. The duplicate half is x17 to x29 and the bytes at the distance d.
 use Rattle.std.specs.Prelude.{◌≡◌, ℕ, ◌+◌, ◌*◌, ◌^◌, ◌<◌, ◌≤◌, true, length, is_some}
 use Rattle.rv_isa.specs.declared.profile.TheConstants.{LAST_ORIGINAL, PAIR_DISTANCE, DISTANCE}
 use Rattle.machine.specs.declared.limits.Limit.TheVariants as limit

@@ -13,7 +13,7 @@ use Rattle.qed_model.specs.Weave.Pieces.{piece_count}
 abbrev pub cost_of : Bool → ℕ
 cost_of diverse = cond diverse DIVERSE_STEPS STORE_STEPS
 
--- the steps of an entry whose tick passes: those of the tick, and with the option `land` those of the test of the signature
+-- the steps of an entry whose tick passes: those of the tick, and with `land` those of the test of the signature
 abbrev pub entry_steps : Bool → ℕ
 entry_steps land = cond land LANDING_STEPS TICK_STEPS
 
@@ -21,7 +21,7 @@ entry_steps land = cond land LANDING_STEPS TICK_STEPS
 abbrev pub call_steps : Bool → ℕ
 call_steps land = cond land 1 CALL_STEPS
 
--- the most steps of the check, with the look-ups behind it, by how many data words and ranges there are, and the words of a round
+-- the most steps of the check with its look-ups, by the numbers of data words and ranges, and the words of a round
 abbrev pub check_bound : ℕ → ℕ → ℕ → ℕ
 check_bound words ranges round = 36 + visit_bound words ranges * round
 
@@ -29,11 +29,11 @@ check_bound words ranges round = 36 + visit_bound words ranges * round
 abbrev pub period : Bool → ℕ → ℕ → ℕ
 period land check every = check + (every + entry_steps land + call_steps land)
 
--- a changed register: what runs first up to the first check, the end with its sweep, a period, and the check up to its comparison
+-- a changed register: what runs before the first check, the end with its sweep, a period, the check to its comparison
 abbrev pub register_bound : Bool → ℕ → ℕ → ℕ
 register_bound land ends period = 53 + entry_steps land + call_steps land + ends + period
 
--- a changed data word, of `words` of them: as many periods more as there are rounds; none where there is no data word
+-- a changed data word, of `words` of them: as many periods more as there are rounds; None without data words
 abbrev pub word_bound : Bool → ℕ → ℕ → ℕ → ℕ → Option ℕ
 word_bound land zero round ends period = None
 word_bound land (suc n) round ends period = Some (53 + entry_steps land + call_steps land + ends + (piece_count round (suc n) + 1) * period)

@@ -1,4 +1,4 @@
--- The new code of a test in the lean form: its sequences, the steps that its ticks count, and its items (this project's profile).
+-- The new code of a test in the lean form (this project's profile): its sequences, what its ticks count, and its items.
 use Rattle.std.specs.Prelude.{ℕ, ◌+◌, ◌-◌, ◌*◌, ◌%◌, ◌^◌, Bool, true, false, cond, ◌==◌, ◌&&◌, ◌||◌, nat_lt, min, max, List, [], ◌∷◌, ◌++◌, length}
 use Rattle.std.specs.List.{list_any}
 use Rattle.qed_model.specs.declared.steps.TheConstants.{LEAN_LEAVE_STEPS, MOST_OWED}
@@ -16,9 +16,9 @@ use Rattle.machine.specs.Offsets.{distance_between}
 use Rattle.qed_model.specs.Weave.Placed.{sum_of_sizes, entry_of}
 use Rattle.qed_model.specs.Weave.Sequences.{Mark, Plain, Go, Item, Ins, Form, Block, End, Falls, Stops, body_length, original, each_part, before_end}
 
--- what it depends on besides its blocks and the form: the steps from check to check, the most instructions of a piece, whether its mirror parts are of other
--- kinds, whether entries test the signature, the distance of the halves, the address of the check, which blocks have a tick, the most steps from the entry of a block to the next tick, and
--- where a block begins that has such an end at an address
+-- what it depends on besides blocks and form. First: the steps from check to check, the most instructions of a piece,
+-- whether mirror parts are of other kinds, whether entries test the signature. Then: the halves' distance, the check's
+-- address, the blocks with a tick, the most steps from an entry to the next tick, the start of the block with an end
 pub record Lean : Type 0 where
   pub every : ℕ
   pub inst_max : ℕ
@@ -43,18 +43,19 @@ store_part i = guard_address i ++ (guard_value i ++ (Plain i ∷ mirrored_store 
 abbrev pub both_parts : Bool → List Ins → ℕ → List Item
 both_parts diverse is at = each_part original is at ++ each_part (mirror_of diverse) is at
 
--- some instructions without a store from an input address on, and what is behind them: a store stands in both halves before the next instruction
+-- a run without stores from an input address on, and what follows; a store stands in both halves before what is next
 abbrev pub parts_with : Bool → List Ins → ℕ → List Ins → List Item
 parts_with diverse run at [] = both_parts diverse run at
 parts_with diverse run at (i ∷ is) =
-    cond (is_store (class_of i.kind)) (both_parts diverse run at ++ (store_part i ++ parts_with diverse [] (at + 4 * length run + 4) is)) (parts_with diverse (run ++ (i ∷ [])) at is)
+    cond (is_store (class_of i.kind)) (both_parts diverse run at ++ (store_part i ++ parts_with diverse [] (at + 4 * length run + 4) is))
+    (parts_with diverse (run ++ (i ∷ [])) at is)
 
 -- a piece
 abbrev pub piece : Bool → List Ins → ℕ → List Item
 piece diverse is at = parts_with diverse [] at is
 
 -- ---- the sequences
--- behind a block stands the entry of a leader, or there is no code
+-- behind a block stands the entry of a leader, or no code
 abbrev pub fall_to : (ℕ → Bool) → ℕ → List Item
 fall_to leader t = cond (leader t) (Mark t ∷ []) (Go t ∷ [])
 
@@ -135,7 +136,7 @@ most_at (r ∷ rs) a = cond (r.start == a) r.most (most_at rs a)
 abbrev pub owed_at : List TickRow → ℕ → ℕ
 owed_at rs t = cond (has_tick rs t) 0 (most_at rs t)
 
--- the most behind an end, where so much is owed at each address, and at most so much at any: that is owed behind a jump by register
+-- the most steps owed behind an end: `owed` gives those at an address, and `most` those behind a jump by register
 abbrev pub owed_as : ℕ → (ℕ → ℕ) → Class → Ins → ℕ → ℕ
 owed_as most owed class.Jump i at = owed (target i at)
 owed_as most owed class.Branch i at = max (owed (target i at)) (owed ((at + 4) % 2 ^ 64))
@@ -146,8 +147,8 @@ abbrev pub owed_behind : ℕ → (ℕ → ℕ) → End → ℕ → ℕ
 owed_behind most owed Falls at = owed at
 owed_behind most owed (Stops i) at = owed_as most owed (class_of i.kind) i at
 
--- what the rows depend on besides the blocks: what the steps do, which addresses begin a block, the entry of the test, and how many steps may be left to
--- the tick before
+-- what the rows depend on besides the blocks: what the steps do, which addresses begin a block, the entry of the test,
+-- and how many steps may be left to the tick before
 pub record Counting : Type 0 where
   pub diverse : Bool
   pub land : Bool
@@ -155,7 +156,7 @@ pub record Counting : Type 0 where
   pub entry : ℕ
   pub room : ℕ
 
--- the first block of the test has a tick, so has one to which a block from there on leads, and one behind which too many steps are
+-- a block needs a tick if it is the first, one from there on leads to it, or the next tick is over `room` steps away
 abbrev pub needs_tick : Counting → Block → Bool → ℕ → Bool
 needs_tick c b behind most = (b.start == c.entry) || (behind || nat_lt c.room most)
 
@@ -167,7 +168,7 @@ tick_rows c (b ∷ bs) =
     record { start = b.start; ticks = needs_tick c b (leads_in (b ∷ bs) b.start) most; most = most } ∷ tick_rows c bs
 
 -- ---- of a file
--- its blocks have fewer steps each than there are from check to check, and what is left is for those behind; but 48 at most, since a tick counts the longest way
+-- the room is what a period leaves beside the longest block, but at most 48, since a tick counts the longest way
 abbrev pub counting_of : Options → ℕ → ℕ → List Block → Counting
 counting_of o entry every blocks = record {
   diverse = o.diverse;
@@ -204,7 +205,8 @@ lean_in o every blocks distance check entry = record {
 
 -- of a file with its blocks
 abbrev pub lean_of : ElfFile → Options → ℕ → List Block → Lean
-lean_of f o every blocks = lean_in o every blocks (half_of o.half (image_of f)) (code_place o.half (image_of f) + sum_of_sizes false (begin (half_of o.half (image_of f)) f.entry)) f.entry
+lean_of f o every blocks = lean_in o every blocks (half_of o.half (image_of f))
+    (code_place o.half (image_of f) + sum_of_sizes false (begin (half_of o.half (image_of f)) f.entry)) f.entry
 
 -- ---- the new code
 -- its items, where an input address has its entry

@@ -1,6 +1,7 @@
--- What the output file of any test holds: segments, sections and symbols, made of those of the input. Names and numbers are those of
--- the ELF gABI.
-use Rattle.std.specs.Prelude.{ℕ, ◌+◌, ◌-◌, ◌*◌, ◌/◌, max, Bool, false, nat_lt, not, if◌then◌else◌, Option, Some, None, List, [], ◌∷◌, ◌++◌, length, map, filter, flat_map, codes}
+-- What the output of any test holds: segments, sections and symbols, made of those of the input. Names and numbers are
+-- those of the ELF gABI.
+use Rattle.std.specs.Prelude.{ℕ, ◌+◌, ◌-◌, ◌*◌, ◌/◌, max, Bool, false, nat_lt, not, if◌then◌else◌, Option, Some, None, List, [], ◌∷◌, ◌++◌, length, map}
+use Rattle.std.specs.Prelude.{filter, flat_map, codes}
 use Rattle.std.specs.List.{list_any}
 use Rattle.elf_types.specs.declared.output.OutFile.{OutFile}
 use Rattle.elf_types.specs.declared.output.OutSection.{OutSection}
@@ -12,7 +13,7 @@ use Rattle.machine.specs.Below.{each, gather}
 use Rattle.machine.specs.Loading.{load_segments}
 use Rattle.machine.specs.Cells.{byte_among}
 use Rattle.tests.specs.Admission.DataRanges.{is_written, is_data, data_segments, data_ranges, is_in}
-use Rattle.tests.specs.Admission.Places.{Segment, ElfFile, image_of, half_of, code_place, in_order}
+use Rattle.tests.specs.Admission.Places.{Segment, ElfFile, image_of, half_of, code_place, by_address}
 pub use Rattle.qed_model.specs.Weave.OutputParts.{shifted}
 use Rattle.qed_model.specs.Weave.OutputParts.{copies, code_segment, text_section, map_section, out_symbols}
 use Rattle.qed_model.specs.Weave.Placed.{entry_at}
@@ -48,7 +49,7 @@ other_segments image = filter (λ s. not (is_data image s)) image
 
 -- the original half: the others without PF_X, and the data ranges
 abbrev pub original_half : List Segment → List Segment
-original_half image = in_order (copies 0 (other_segments image) ++ map (range_segment image) (data_ranges image))
+original_half image = by_address (copies 0 (other_segments image) ++ map (range_segment image) (data_ranges image))
 
 -- both halves
 abbrev pub halves : ℕ → List Segment → List Segment
@@ -97,7 +98,13 @@ file_segments d image code_at table rows code = halves d image ++ ((if table the
 
 -- over the table, with SHF_ALLOC
 abbrev pub table_section : ℕ → List EntryRow → OutSection
-table_section d rows = record { name = codes ".qed.table"; flags = SHF_ALLOC; address = first_input rows + 2 * d; size = length (table_bytes d rows); bytes = [] }
+table_section d rows = record {
+  name = codes ".qed.table";
+  flags = SHF_ALLOC;
+  address = first_input rows + 2 * d;
+  size = length (table_bytes d rows);
+  bytes = [];
+}
 
 abbrev pub file_sections : ℕ → ℕ → Bool → List EntryRow → List ℕ → List OutSection
 file_sections d code_at table rows code = text_section code_at code ∷ ((if table then table_section d rows ∷ [] else []) ++ map_section rows ∷ [])
@@ -116,8 +123,8 @@ file_of f half table rows code =
       symbols = out_symbols rows f.symbols;
     }
 
--- ---- what is told of the pieces
--- of those of a block, from an input address on; an empty piece stands at the end
+-- ---- the rows of the plan for pieces
+-- of a block, from an input address on; an empty piece stands at the end
 abbrev pub rows_of_pieces : ℕ → ℕ → List (List Ins) → List PieceRow
 rows_of_pieces entry at [] = []
 rows_of_pieces entry at (p ∷ ps) = record { entry = entry; first = at; length = length p } ∷ rows_of_pieces entry (at + 4 * length p) ps

@@ -1,5 +1,6 @@
--- What the output file holds: segments, sections and symbols, made of those of the input. Names and numbers are those of the ELF gABI.
-use Rattle.std.specs.Prelude.{ℕ, ◌+◌, ◌*◌, ◌/◌, Bool, true, false, nat_lt, nat_le, ◌&&◌, not, if◌then◌else◌, Option, Some, None, List, [], ◌++◌, length, map, codes}
+-- The parts of the output: segments, sections and symbols, made of the input's. Names and numbers are the ELF gABI's.
+use Rattle.std.specs.Prelude.{ℕ, ◌+◌, ◌*◌, ◌/◌, Bool, true, false, nat_lt, nat_le, ◌&&◌, not, if◌then◌else◌, Option, Some, None, List, [], ◌++◌, length, map}
+use Rattle.std.specs.Prelude.{codes}
 use Rattle.std.specs.List.{filter, flat_map}
 use Rattle.elf_types.specs.declared.file.Segment.{Segment}
 use Rattle.elf_types.specs.declared.file.Symbol.{Symbol}
@@ -62,6 +63,6 @@ out_symbol rows s = at_entry s (if may_name_code s then entry_at rows s.value el
 abbrev pub symbol_group : Bool → List EntryRow → List Symbol → List Symbol
 symbol_group local rows symbols = map (out_symbol rows) (filter (λ s. is_kept s && (if local then is_local s else not (is_local s))) symbols)
 
--- those that are STB_LOCAL come first
+-- the symbols of the output: those that are STB_LOCAL come first
 abbrev pub out_symbols : List EntryRow → List Symbol → List Symbol
 out_symbols rows symbols = symbol_group true rows symbols ++ symbol_group false rows symbols

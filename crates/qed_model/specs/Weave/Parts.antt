@@ -1,5 +1,5 @@
--- What the items of the new code are for: its sequences in parts of one role, in which each comparison of a register with its pair has a
--- role of its own.
+-- What the items of the new code are for: its sequences in parts of one role, in which each comparison of a register
+-- with its pair has a role of its own.
 use Rattle.std.specs.Prelude.{◌≡◌, ℕ, ◌+◌, ◌-◌, ◌*◌, ◌==◌, if◌then◌else◌, Bool, Option, Some, None, List, [], ◌∷◌, ◌++◌, length}
 use Rattle.rv_isa.specs.declared.profile.TheConstants.{PAIR_DISTANCE}
 use Rattle.rv_isa.specs.declared.class.Class.TheVariants as class
@@ -8,7 +8,8 @@ use Rattle.qed_model.specs.declared.role.Role.{Role}
 use Rattle.qed_model.specs.declared.role.Role.TheVariants as role
 use Rattle.qed_model.specs.declared.role.RoleRow.{RoleRow}
 use Rattle.qed_model.specs.Weave.Placed.{size_of}
-use Rattle.qed_model.specs.Weave.Sequences.{Mark, Plain, Item, class_of, Class, Ins, Form, Block, End, Falls, Stops, compare, check_sign, visit, original, before_end, leave_as, leave, body_length, prologue, stub}
+use Rattle.qed_model.specs.Weave.Sequences.{Mark, Plain, Item, class_of, Class, Ins, Form, Block, End, Falls, Stops, compare, check_sign, visit, original}
+use Rattle.qed_model.specs.Weave.Sequences.{before_end, leave_as, leave, body_length, prologue, stub}
 use Rattle.qed_model.specs.Weave.Code.{Sequences}
 
 -- ---- parts
@@ -31,7 +32,7 @@ pub record ArePartsOf (s : Sequences) (p : Parts) : Type 0 where
   pub piece : (is : List Ins) (at : ℕ) → joined (p.piece is at) ≡ s.piece is at
   pub leave : (e : End) (at : ℕ) → joined (p.leave e at) ≡ s.leave e at
 
--- those of blocks, up to the stub, and all
+-- the parts of pieces, of a block, of blocks, of what is before the stub, and of all code
 abbrev pub pieces_parts : Parts → List (List Ins) → ℕ → List (Role × List Item)
 pieces_parts p [] at = []
 pieces_parts p (is ∷ ps) at = p.piece is at ++ pieces_parts p ps (at + 4 * length is)
@@ -71,7 +72,8 @@ abbrev pub parts : Form → Parts
 parts form = record {
   first = λ d a. (role.Start, prologue d form.spans a) ∷ [];
   enter = λ a. (role.Entry a, Mark a ∷ check_sign a) ∷ [];
-  piece = λ is at. each_parts role.Original original is at ++ (each_parts role.Mirror form.mirror is at ++ ((role.Visit at (last_of is at), compare ++ visit form.round form.spans) ∷ []));
+  piece = λ is at. each_parts role.Original original is at
+      ++ (each_parts role.Mirror form.mirror is at ++ ((role.Visit at (last_of is at), compare ++ visit form.round form.spans) ∷ []));
   leave = leave_parts form;
 }
 
@@ -100,7 +102,7 @@ role_in of (Some r) here = comparison_role of r
 role_in of None (Some r) = comparison_role of r
 role_in of None None = of
 
--- the items of a part with their roles, each with its bytes in the near or in the far form; the item before compares a register, or none
+-- a part's items with their roles and their bytes, near or far; the register that the item before compares, or None
 abbrev pub item_rows : Bool → Role → Option ℕ → List Item → List RoleRow
 item_rows far of before [] = []
 item_rows far of before (i ∷ is) = record { role = role_in of before (compares i); bytes = size_of far i } ∷ item_rows far of (compares i) is

@@ -45,7 +45,7 @@ AreRuns (run ∷ runs) = (1 ≤ length run) × (is_run run ≡ true) × Breaks r
 abbrev pub piece_count : ℕ → ℕ → ℕ
 piece_count most n = (n + most - 1) / most
 
--- so many lengths that add up to n and differ by 1 at most, the longer ones first
+-- lengths that add up to n and differ by 1 at most, the longer ones first
 abbrev pub even_lengths : ℕ → ℕ → List ℕ
 even_lengths count n = replicate (n % count) (n / count + 1) ++ replicate (count - n % count) (n / count)
 

@@ -1,5 +1,5 @@
--- Items that have their places: each is one or two instructions, which know where they stand. In the far form of the code a jump to
--- an entry is two.
+-- Items at their places: each is one or two instructions, which know where they stand. In the far form of the code a
+-- jump to an entry is two.
 use Rattle.std.specs.Prelude.{◌≡◌, ℕ, ◌+◌, ◌-◌, Bool, true, false, ◌==◌, ◌<◌, if◌then◌else◌, AllPairs, List, [], ◌∷◌, ◌++◌, map, Option, Some, None, unwrap_or}
 use Rattle.rv_isa.specs.declared.profile.TheConstants.{TEMPORARY}
 pub use Rattle.qed_model.specs.declared.item.Item.{Item}
@@ -39,7 +39,7 @@ abbrev pub entry_at : List EntryRow → ℕ → Option ℕ
 entry_at [] a = None
 entry_at (row ∷ rows) a = if row.input == a then Some row.output else entry_at rows a
 
--- the same, and without an entry the last word of the code, which is the stub
+-- the entry of an input address, or without one the last word of the code, which is the stub
 abbrev pub leads_to : List EntryRow → ℕ → ℕ → ℕ
 leads_to rows last a = unwrap_or (entry_at rows a) last
 

@@ -1,6 +1,6 @@
--- The code sequences of the new code (this project's profile), as lists of items, and what it means that words stand for them.
--- x17 to x29 hold the duplicates of x1 to x13, x14 the distance of the halves, x15 the address of the next visited data word, x16
--- the signature, and x30 and x31 are temporaries.
+-- The code sequences of the new code (this project's profile), as lists of items, and when words stand for them.
+-- Duplicates of x1 to x13 are x17 to x29. The distance of the halves is in x14, the address of the next visited data
+-- word in x15, the signature in x16. Temporaries are x30 and x31.
 use Rattle.std.specs.Prelude.{◌≡◌, ℕ, zero, suc, ◌+◌, ◌%◌, ◌^◌, Bool, cond, ◌==◌, List, [], ◌∷◌, ◌++◌, length, pos, neg_ℤ}
 pub use Rattle.rv_isa.specs.declared.profile.TheConstants.{ORIGINALS, LAST_ORIGINAL, PAIR_DISTANCE, DISTANCE, CURSOR, SIGNATURE, TEMPORARY, SPARE}
 pub use Rattle.rv_isa.specs.declared.ins.Ins.{Ins}
@@ -15,14 +15,15 @@ use Rattle.machine.specs.Offsets.{distance_between, upper_part, lower_part}
 use Rattle.machine.specs.Operands.{is_auipc}
 use Rattle.qed_model.specs.Weave.Placed.{go_words, go_size}
 
--- the words from an address on stand for the items, in the near or in the far form, where `entry` gives the entry of an input
+-- the words from an address on stand for the items, in the near or in the far form; `entry` gives the entry of an input
 -- address
 abbrev pub Reads : Bool → (ℕ → Fetched) → (ℕ → ℕ) → ℕ → List Item → Type 0
 Reads far c entry a [] = Unit {0}
 Reads far c entry a (Mark m ∷ is) = (entry m ≡ a) × Reads far c entry a is
 Reads far c entry a (Plain i ∷ is) = (c a ≡ Known i) × Reads far c entry (a + 4) is
 Reads far c entry a (Constant r v ∷ is) =
-    (c a ≡ Known (ins Auipc r 0 0 (upper_part (distance_between a v)))) × (c (a + 4) ≡ Known (ins Addi r r 0 (lower_part (distance_between a v)))) × Reads far c entry (a + 8) is
+    (c a ≡ Known (ins Auipc r 0 0 (upper_part (distance_between a v))))
+    × (c (a + 4) ≡ Known (ins Addi r r 0 (lower_part (distance_between a v)))) × Reads far c entry (a + 8) is
 Reads far c entry a (Go t ∷ is) = HasAt c a (go_words far a (entry t)) × Reads far c entry (a + go_size far) is
 
 -- what the new code depends on besides the blocks
@@ -76,12 +77,13 @@ wraps [] first = []
 wraps (r ∷ []) first = Constant TEMPORARY r.1 ∷ Plain (ins Bne 0 CURSOR TEMPORARY (pos 12)) ∷ Constant CURSOR first ∷ []
 wraps (r ∷ n ∷ rs) first = Constant TEMPORARY r.1 ∷ Plain (ins Bne 0 CURSOR TEMPORARY (pos 12)) ∷ Constant CURSOR n.0 ∷ wraps (n ∷ rs) first
 
--- one visited data word: fires where the word and its duplicate differ, and moves the cursor to the next word, behind the last one
--- to the first; nothing where there is no data range
+-- one visited data word: fires if the word and its duplicate differ, and moves the cursor to the next word, from the
+-- last one to the first; nothing without data ranges
 abbrev pub visit_word : List (ℕ × ℕ) → List Item
 visit_word [] = []
 visit_word (r ∷ rs) =
-    Plain (ins Ld TEMPORARY CURSOR 0 (pos 0)) ∷ Plain (ins Add SPARE CURSOR DISTANCE (pos 0)) ∷ Plain (ins Ld SPARE SPARE 0 (pos 0)) ∷ Plain (ins Beq 0 TEMPORARY SPARE (pos 8)) ∷ fired_check ∷
+    Plain (ins Ld TEMPORARY CURSOR 0 (pos 0)) ∷ Plain (ins Add SPARE CURSOR DISTANCE (pos 0)) ∷ Plain (ins Ld SPARE SPARE 0 (pos 0))
+    ∷ Plain (ins Beq 0 TEMPORARY SPARE (pos 8)) ∷ fired_check ∷
     Plain (ins Addi CURSOR CURSOR 0 (pos 8)) ∷ wraps (r ∷ rs) r.0
 
 -- the items several times
@@ -96,7 +98,8 @@ visit round spans = times round (visit_word spans)
 -- each word of a range in turn: fires where it and its duplicate differ
 abbrev pub sweep_range : ℕ × ℕ → List Item
 sweep_range r =
-    Constant CURSOR r.0 ∷ Plain (ins Ld TEMPORARY CURSOR 0 (pos 0)) ∷ Plain (ins Add SPARE CURSOR DISTANCE (pos 0)) ∷ Plain (ins Ld SPARE SPARE 0 (pos 0)) ∷ Plain (ins Beq 0 TEMPORARY SPARE (pos 8)) ∷ fired_check ∷
+    Constant CURSOR r.0 ∷ Plain (ins Ld TEMPORARY CURSOR 0 (pos 0)) ∷ Plain (ins Add SPARE CURSOR DISTANCE (pos 0))
+    ∷ Plain (ins Ld SPARE SPARE 0 (pos 0)) ∷ Plain (ins Beq 0 TEMPORARY SPARE (pos 8)) ∷ fired_check ∷
     Plain (ins Addi CURSOR CURSOR 0 (pos 8)) ∷ Constant TEMPORARY r.1 ∷ Plain (ins Bne 0 CURSOR TEMPORARY (neg_ℤ (pos 32))) ∷ []
 
 -- each range
@@ -109,8 +112,8 @@ sweep (r ∷ rs) = sweep_range r ++ sweep rs
 abbrev pub guards_of : Ins → List Item
 guards_of i = guard i.rs1 ++ cond (i.rs2 == i.rs1) [] (guard i.rs2)
 
--- the original part of an instruction at an input address, by its class: the base of an access and a stored register are
--- guarded
+-- the original part of an instruction at an input address, by its class: the base of an access and a stored register
+-- are guarded
 abbrev pub original_as : Class → Ins → ℕ → List Item
 original_as class.Load i at = guard i.rs1 ++ (Plain i ∷ [])
 original_as class.Store i at = guards_of i ++ (Plain i ∷ [])
@@ -158,18 +161,20 @@ go_on n = Constant SIGNATURE n ∷ Go n ∷ []
 abbrev pub before_end : Form → List Item
 before_end form = cond form.sweep (sweep form.spans ++ compare) []
 
--- the leave of an instruction at an input address, by its class: the pairs choose the signature, the originals the way, and the
--- target of a JALR is looked up in the table; a branch that is taken skips the first of two jumps
+-- the leave of an instruction at an input address, by its class. The pairs choose the signature, the originals the way.
+-- The table gives the target of a JALR. A branch that is taken skips the first of two jumps
 abbrev pub leave_as : Form → Class → Ins → ℕ → List Item
 leave_as form class.End i at = before_end form ++ (Plain i ∷ [])
 leave_as form class.Jump i at = links i at ++ go_on (target i at)
 leave_as form class.Branch i at =
-    Plain (ins i.kind 0 (pair i.rs1) (pair i.rs2) (pos 16)) ∷ Constant SIGNATURE ((at + 4) % 2 ^ 64) ∷ Plain (ins Jal 0 0 0 (pos 12)) ∷ Constant SIGNATURE (target i at) ∷
+    Plain (ins i.kind 0 (pair i.rs1) (pair i.rs2) (pos 16)) ∷ Constant SIGNATURE ((at + 4) % 2 ^ 64)
+    ∷ Plain (ins Jal 0 0 0 (pos 12)) ∷ Constant SIGNATURE (target i at) ∷
     (guards_of i ++ (Plain (ins i.kind 0 i.rs1 i.rs2 (pos (4 + go_size form.far))) ∷ Go ((at + 4) % 2 ^ 64) ∷ Go (target i at) ∷ []))
 leave_as form class.JumpReg i at =
     Plain (ins Addi SIGNATURE (pair i.rs1) 0 i.imm) ∷ Plain (ins Andi SIGNATURE SIGNATURE 0 (neg_ℤ (pos 2))) ∷
     (guard i.rs1 ++ (Plain (ins Addi TEMPORARY i.rs1 0 i.imm) ∷ Plain (ins Andi TEMPORARY TEMPORARY 0 (neg_ℤ (pos 2))) ∷
-    (links i at ++ (Plain (ins Add SPARE TEMPORARY DISTANCE (pos 0)) ∷ Plain (ins Add SPARE SPARE DISTANCE (pos 0)) ∷ Plain (ins Lw TEMPORARY SPARE 0 (pos 0)) ∷ Plain (ins Add TEMPORARY TEMPORARY SPARE (pos 0)) ∷ Plain (ins Jalr 0 TEMPORARY 0 (pos 0)) ∷ []))))
+    (links i at ++ (Plain (ins Add SPARE TEMPORARY DISTANCE (pos 0)) ∷ Plain (ins Add SPARE SPARE DISTANCE (pos 0))
+    ∷ Plain (ins Lw TEMPORARY SPARE 0 (pos 0)) ∷ Plain (ins Add TEMPORARY TEMPORARY SPARE (pos 0)) ∷ Plain (ins Jalr 0 TEMPORARY 0 (pos 0)) ∷ []))))
 leave_as form _ i at = Plain i ∷ []
 
 -- the leave of a block whose end stands at an input address
@@ -178,7 +183,7 @@ leave form Falls at = go_on at
 leave form (Stops i) at = leave_as form (class_of i.kind) i at
 
 -- ---- blocks
--- a block: its first input address, the pieces of its body, its end, and whether it is marked as one to which a jump by register may lead
+-- a block: its first input address, its pieces, its end, and the mark of those to which a jump by register may lead
 pub record Block : Type 0 where
   pub start : ℕ
   pub body : List (List Ins)

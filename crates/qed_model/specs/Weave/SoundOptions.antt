@@ -15,5 +15,6 @@ pub record AreSoundOptions (o : Options) : Type 0 where
   pub visits : 1 ≤ o.round
   pub few_visits : o.round ≤ 1024
   pub half : IfSome o.half (λ h. (h % PAGE ≡ 0) × (PAGE ≤ h) × (h ≤ MAX_HALF))
-  -- in the lean form a block has fewer steps than there are from check to check: those of its entry, of one piece, and of its leave
-  pub lean : IfSome o.lean (λ every. (o.entries ≡ entries.Reached) × (every ≤ 2047) × (entry_steps o.land + LEAN_LEAVE_STEPS + cost_of o.diverse * o.inst_max < every))
+  -- in the lean form a block has fewer steps than a period: those of its entry, of one piece, and of its leave
+  pub lean : IfSome o.lean (λ every. (o.entries ≡ entries.Reached) × (every ≤ 2047)
+      × (entry_steps o.land + LEAN_LEAVE_STEPS + cost_of o.diverse * o.inst_max < every))

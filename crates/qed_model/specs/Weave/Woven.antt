@@ -1,5 +1,5 @@
--- What is woven from the file of a test: its new code in the form that is asked for, word for word, the file that has it, and what is
--- told of it.
+-- What is woven from the file of a test: its new code, word for word, in the form that is asked for, the file that has
+-- it, and the numbers of the plan.
 use Rattle.std.specs.Prelude.{◌≡◌, ℕ, ◌^◌, ◌<◌, ◌≤◌, nat_lt, Bool, true, false, cond, Option, Some, None, List, length, map, slice_index}
 use Rattle.elf_types.specs.declared.output.OutFile.{OutFile}
 use Rattle.machine.specs.declared.limits.Limit.{Limit}
@@ -28,7 +28,7 @@ use Rattle.qed_model.specs.Weave.Parts.{joined, parts, code_parts, role_rows}
 use Rattle.qed_model.specs.Weave.LeanParts.{lean_parts}
 
 -- ---- with a comparison behind each piece
--- its items
+-- the items of the form
 abbrev pub items_in : ElfFile → Options → Bool → List Block → List Item
 items_in f o far blocks = code_of (sequences (form_of f o far)) (half_of o.half (image_of f)) f.entry blocks
 
@@ -48,7 +48,7 @@ abbrev pub new_entries : ElfFile → Options → List Block → List EntryRow
 new_entries f o blocks = rows_from (is_far_code f o blocks) (code_place o.half (image_of f)) (new_items f o blocks)
 
 -- ---- the new code in some form
--- whether it is far code, its items, what they are for, whether the output has a table, the limit on its bytes, and the bounds of the output
+-- whether it is far, its items and what they are for, whether the output has a table, the byte limit, and the bounds
 pub record NewCode : Type 0 where
   pub far : Bool
   pub items : List Item
@@ -70,7 +70,14 @@ compared f o blocks = record {
 
 -- with one check for all of the code, which has no more bytes than a JAL spans, and a table
 abbrev pub lean : ElfFile → Options → ℕ → List Block → NewCode
-lean f o every blocks = record { far = false; items = lean_items f o every blocks; parts = lean_parts f o every blocks; table = true; limit = limit.LeanBytes; bounds = lean_bounds f o every }
+lean f o every blocks = record {
+  far = false;
+  items = lean_items f o every blocks;
+  parts = lean_parts f o every blocks;
+  table = true;
+  limit = limit.LeanBytes;
+  bounds = lean_bounds f o every;
+}
 
 -- the one that is asked for
 abbrev pub code_as : Option ℕ → ElfFile → Options → List Block → NewCode
@@ -114,13 +121,13 @@ entries_in c f o = rows_from c.far (code_place o.half (image_of f)) c.items
 abbrev pub file_with : NewCode → ElfFile → Options → List ℕ → OutFile
 file_with c f o words = file_of f o.half c.table (entries_in c f o) (bytes_of words)
 
--- the new code has at most 67,108,864 bytes, or 1,048,576 with one check, and the output at most 4,000 segments and 536,870,912 bytes
+-- new code of at most 67,108,864 bytes, or 1,048,576 with one check, in at most 4,000 segments and 536,870,912 bytes
 pub record IsWithin (c : NewCode) (out : OutFile) : Type 0 where
   pub code : size_of_code c ≤ limit_of c.limit
   pub segments : length out.segments ≤ limit_of limit.OutputSegments
   pub size : length (written out) ≤ limit_of limit.OutputBytes
 
--- ---- what is told of it
+-- ---- the plan
 -- the places, the data words, the size of the new code, its entries and pieces, and the bounds
 pub record IsToldOf (c : NewCode) (f : ElfFile) (o : Options) (blocks : List Block) (plan : Plan) : Type 0 where
   pub base : plan.base ≡ base_of (image_of f)
@@ -132,7 +139,7 @@ pub record IsToldOf (c : NewCode) (f : ElfFile) (o : Options) (blocks : List Blo
   pub span : map range_of plan.span ≡ data_ranges (image_of f)
   pub bounds : plan.bounds ≡ c.bounds
 
--- ---- the same of the one with comparisons
+-- ---- the new code with comparisons
 abbrev pub IsNewCode : ElfFile → Options → List Block → List ℕ → Type 0
 IsNewCode f o blocks words = IsCodeFor (compared f o blocks) f o words
 

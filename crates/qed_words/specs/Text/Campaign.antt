@@ -14,13 +14,13 @@ use Rattle.texts.specs.Printed.{hex_text}
 
 -- ---- one strike
 
-abbrev pub place_text : Place → List ℕ
-place_text (Reg r) = codes "x" ++ decimal r
-place_text (Word a) = hex_text a
+abbrev pub change_place_text : Place → List ℕ
+change_place_text (Reg r) = codes "x" ++ decimal r
+change_place_text (Word a) = hex_text a
 
 -- what is changed when, and its value then
 abbrev pub change_text : Change → List ℕ
-change_text c = codes " step " ++ (decimal c.step ++ (codes " " ++ (place_text c.place ++ (codes "=" ++ hex_text c.value))))
+change_text c = codes " step " ++ (decimal c.step ++ (codes " " ++ (change_place_text c.place ++ (codes "=" ++ hex_text c.value))))
 
 abbrev pub changes_text : List Change → List ℕ
 changes_text [] = []
@@ -54,21 +54,21 @@ strike_lines rights i (s ∷ ss) = strike_line i s (right_at rights i) ++ strike
 
 -- ---- all strikes
 
-abbrev pub is_fired : Verdict → Bool
-is_fired (Fired k) = true
-is_fired _ = false
+abbrev pub is_fired_verdict : Verdict → Bool
+is_fired_verdict (Fired k) = true
+is_fired_verdict _ = false
 
 abbrev pub is_ended : Verdict → Bool
 is_ended (Ended k) = true
 is_ended _ = false
 
-abbrev pub is_same : Verdict → Bool
-is_same Same = true
-is_same _ = false
+abbrev pub is_same_verdict : Verdict → Bool
+is_same_verdict Same = true
+is_same_verdict _ = false
 
-abbrev pub is_closed : Verdict → Bool
-is_closed Closed = true
-is_closed _ = false
+abbrev pub is_closed_verdict : Verdict → Bool
+is_closed_verdict Closed = true
+is_closed_verdict _ = false
 
 abbrev pub is_not_reached : Verdict → Bool
 is_not_reached NotReached = true
@@ -102,14 +102,16 @@ ends_text n (Some right) = decimal n ++ (codes " (" ++ (decimal right ++ (codes 
 -- how often each verdict came
 abbrev pub verdicts_text : Option (List Bool) → List Struck → List ℕ
 verdicts_text rights ss =
-    codes "strikes " ++ (decimal (length ss) ++ (codes ", fired " ++ (decimal (how_many is_fired ss) ++ (codes ", ended "
+    codes "strikes " ++ (decimal (length ss) ++ (codes ", fired " ++ (decimal (how_many is_fired_verdict ss) ++ (codes ", ended "
     ++ (ends_text (how_many is_ended ss) (option_map how_many_right rights)
-    ++ (codes ", same " ++ (decimal (how_many is_same ss) ++ (codes ", closed " ++ (decimal (how_many is_closed ss) ++ (codes ", not reached " ++ decimal (how_many is_not_reached ss)))))))))))
+    ++ (codes ", same " ++ (decimal (how_many is_same_verdict ss)
+    ++ (codes ", closed " ++ (decimal (how_many is_closed_verdict ss) ++ (codes ", not reached " ++ decimal (how_many is_not_reached ss)))))))))))
 
 -- the last line: the verdicts, the longest time until a check fired, and the bounds, in steps
 abbrev pub summary_line : Option (List Bool) → List Struck → Plan → List ℕ
 summary_line rights ss plan =
-    verdicts_text rights ss ++ (codes ", longest " ++ (decimal (longest ss) ++ (codes ", " ++ (bounds_text plan.bounds.register plan.bounds.word ++ codes "\n"))))
+    verdicts_text rights ss
+    ++ (codes ", longest " ++ (decimal (longest ss) ++ (codes ", " ++ (bounds_text plan.bounds.register plan.bounds.word ++ codes "\n"))))
 
 -- the input's own run trapped: no verdict is possible
 abbrev pub trapped_line : ℕ → List ℕ

@@ -1,5 +1,5 @@
--- The code of a file that was read: its addresses, the word at each, and the instruction of that word. Code ranges are by their first
--- address and the one behind their last.
+-- The code of a file that was read: its addresses, the word at each, and the instruction of that word. Code ranges are
+-- by their first address and the one behind their last.
 use Rattle.std.specs.Prelude.{◌≡◌, ℕ, ◌<◌, Bool, Option, None, if◌then◌else◌, List, Contains, ◌↔◌, true, AllPairs}
 pub use Rattle.elf_types.specs.declared.file.ElfFile.{ElfFile}
 pub use Rattle.rv_isa.specs.declared.ins.Ins.{Ins}

@@ -1,6 +1,7 @@
--- The data of a test: which segments have it, and the ranges of aligned words that they make up. Ranges are by their first address
--- and the one behind their last. The form is this project's own.
-use Rattle.std.specs.Prelude.{◌≡◌, ◌↔◌, if◌then◌else◌, ℕ, ◌+◌, ◌-◌, ◌*◌, ◌/◌, ◌<◌, Bool, nat_lt, ◌&&◌, ◌||◌, not, min, max, cond, List, [], ◌∷◌, map, filter, All, AllPairs}
+-- The data of a test: which segments have it, and the ranges of aligned words that they make up. Ranges are by their
+-- first address and the one behind their last. The form is this project's own.
+use Rattle.std.specs.Prelude.{◌≡◌, ◌↔◌, if◌then◌else◌, ℕ, ◌+◌, ◌-◌, ◌*◌, ◌/◌, ◌<◌, Bool, nat_lt, ◌&&◌, ◌||◌, not, min, max, cond, List, [], ◌∷◌, map, filter}
+use Rattle.std.specs.Prelude.{All, AllPairs}
 use Rattle.std.specs.List.{list_any}
 pub use Rattle.elf_types.specs.declared.file.Segment.{Segment}
 pub use Rattle.elf_types.specs.declared.file.ElfFile.{ElfFile}
@@ -46,8 +47,8 @@ data_segments image = filter (is_data image) image
 abbrev pub data_parts : List Segment → List (ℕ × ℕ)
 data_parts image = map rounded (data_segments image)
 
--- the ranges ascend, each has some address, and there is a gap between any two; together they have the addresses of the parts. So
--- parts that touch or overlap are joined
+-- the ranges ascend, each has some address, and there is a gap between any two; together they have the addresses of the
+-- parts. So parts that touch or overlap are joined
 pub record AreJoined (parts ranges : List (ℕ × ℕ)) : Type 0 where
   pub some : All (λ r. r.0 < r.1) ranges
   pub gaps : AllPairs (λ r t. r.1 < t.0) ranges
@@ -58,24 +59,25 @@ abbrev pub join : ℕ × ℕ → List (ℕ × ℕ) → List (ℕ × ℕ)
 join r [] = r ∷ []
 join r (t ∷ ts) = cond (nat_lt r.1 t.0) (r ∷ t ∷ ts) (cond (nat_lt t.1 r.0) (t ∷ join r ts) (join (min r.0 t.0, max r.1 t.1) ts))
 
-abbrev pub joined : List (ℕ × ℕ) → List (ℕ × ℕ)
-joined [] = []
-joined (r ∷ rs) = join r (joined rs)
+abbrev pub joined_ranges : List (ℕ × ℕ) → List (ℕ × ℕ)
+joined_ranges [] = []
+joined_ranges (r ∷ rs) = join r (joined_ranges rs)
 
 -- the data ranges of an image; N is how many they are
 abbrev pub data_ranges : List Segment → List (ℕ × ℕ)
-data_ranges image = joined (data_parts image)
+data_ranges image = joined_ranges (data_parts image)
 
--- those of a file are the one list of ranges that its parts are joined to
+-- the data ranges of a file are the one list of ranges that its parts are joined to
 abbrev pub DataRangesAreJoined : Type 0
-DataRangesAreJoined = (f : ElfFile) (ranges : List (ℕ × ℕ)) → AreJoined (data_parts (image_segments f.segments)) ranges ↔ (ranges ≡ data_ranges (image_segments f.segments))
+DataRangesAreJoined = (f : ElfFile) (ranges : List (ℕ × ℕ))
+    → AreJoined (data_parts (image_segments f.segments)) ranges ↔ (ranges ≡ data_ranges (image_segments f.segments))
 
 -- ---- data words
 -- how many aligned words a range has
 abbrev pub words_in : ℕ × ℕ → ℕ
 words_in r = (r.1 - r.0) / 8
 
--- and ranges, W
+-- how many aligned words some ranges have, W
 abbrev pub word_count : List (ℕ × ℕ) → ℕ
 word_count [] = 0
 word_count (r ∷ rs) = words_in r + word_count rs

@@ -50,7 +50,7 @@ pub data Begins (f : ElfFile) (o : Options) (a : ℕ) : Type 0 where
   Named : is_named_in f a ≡ true → Begins f o a
   -- a JALR may lead to it, where only such addresses have entries
   Reached : o.entries ≡ entries.Reached → HasIndirect f → IsReached f o a → Begins f o a
-  -- in the lean form: each multiple of so many words as a piece has at most
+  -- in the lean form: each multiple of as many words as a piece may have
   Even : is_some o.lean ≡ true → a % (4 * o.inst_max) ≡ 0 → Begins f o a
 
 -- a leader

@@ -31,9 +31,9 @@ insert_segment s [] = s ∷ []
 insert_segment s (t ∷ ts) = if nat_le s.address t.address then s ∷ t ∷ ts else t ∷ insert_segment s ts
 
 -- segments in ascending order of their addresses
-abbrev pub in_order : List Segment → List Segment
-in_order [] = []
-in_order (s ∷ ss) = insert_segment s (in_order ss)
+abbrev pub by_address : List Segment → List Segment
+by_address [] = []
+by_address (s ∷ ss) = insert_segment s (by_address ss)
 
 -- the segments of a file that are its image
 abbrev pub image_of : ElfFile → List Segment

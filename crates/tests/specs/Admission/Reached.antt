@@ -1,5 +1,5 @@
--- Reached addresses: the code addresses to which a jump by register may lead, as far as the file shows. The form is this project's own:
--- more addresses than a run uses do no harm.
+-- Reached addresses: the code addresses to which the file shows that a jump by register may lead. The form is this
+-- project's own: more addresses than a run uses do no harm.
 use Rattle.std.specs.Prelude.{◌≡◌, ℕ, ◌+◌, ◌-◌, ◌%◌, ◌^◌, ◌==◌, ◌&&◌, ◌||◌, not, nat_lt, nat_le, cond, Bool, true, false, List, [], ◌∷◌, map, take, drop}
 use Rattle.std.specs.List.{list_any}
 use Rattle.rv_isa.specs.declared.class.Class.TheVariants as class
@@ -37,7 +37,7 @@ aligned_words s = words_of (drop ((4 - s.address % 4) % 4) s.bytes)
 abbrev pub offset_of : ℕ → ℕ → ℕ
 offset_of base w = (w + (2 ^ 32 - base % 2 ^ 32)) % 2 ^ 32
 
--- that address, where it may be one of the image
+-- an address is the first from a base on with a word as its low 32 bits, if it may be one of the image
 abbrev pub is_low_half : ℕ → ℕ → ℕ → Bool
 is_low_half base a w = nat_lt (offset_of base w) MAX_IMAGE_SPAN && ((base + offset_of base w) % 2 ^ 64 == a)
 
@@ -78,7 +78,7 @@ is_sum Addiw = true
 is_sum Jalr = true
 is_sum _ = false
 
--- such a word adds its immediate to the register
+-- the instruction adds its immediate to the register
 abbrev pub adds_to : ℕ → Ins → Bool
 adds_to register i = is_sum i.kind && (i.rs1 == register)
 
@@ -86,8 +86,8 @@ adds_to register i = is_sum i.kind && (i.rs1 == register)
 abbrev pub sum_leads : Test → ℕ → ℕ → ℕ → CodeWord → Bool
 sum_leads t register value a d = adds_to register d.ins && leads t (target d.ins value) a
 
-unfoldable pub once : Test → List CodeWord → ℕ → ℕ → ℕ → Bool
-once t near register value a = leads t value a || list_any (sum_leads t register value a) near
+unfoldable pub one_pass : Test → List CodeWord → ℕ → ℕ → ℕ → Bool
+one_pass t near register value a = leads t value a || list_any (sum_leads t register value a) near
 
 -- the words near by that may use a register: of x0, which holds no value, none
 abbrev pub users : ℕ → List CodeWord → List CodeWord
@@ -97,9 +97,9 @@ users register near = cond (register == 0) [] near
 abbrev pub near_by : Test → List CodeWord → ℕ → List CodeWord
 near_by t near register = cond (register == 3) t.code (users register near)
 
--- or with the immediates of two
+-- a register's value leads to the address with the immediate of a word near by, or also with that of a second one
 abbrev pub sums_lead : Test → List CodeWord → ℕ → ℕ → ℕ → CodeWord → Bool
-sums_lead t near register value a d = adds_to register d.ins && once t (near_by t near d.ins.rd) d.ins.rd (target d.ins value) a
+sums_lead t near register value a d = adds_to register d.ins && one_pass t (near_by t near d.ins.rd) d.ins.rd (target d.ins value) a
 
 unfoldable pub twice : Test → List CodeWord → ℕ → ℕ → ℕ → Bool
 twice t near register value a = leads t value a || list_any (sums_lead t near register value a) near
@@ -123,8 +123,8 @@ is_made t a [] = false
 is_made t a (c ∷ cs) = made_by t (take 16 cs) c a || is_made t a cs
 
 -- ---- all of them
--- the address is the entry, a link, named by a symbol or a relocation, a word of the image, or a constant or led to by one. Of code
--- addresses it says whether they are reached
+-- the address is the entry, a link, named by a symbol or a relocation, a word of the image, or a constant or led to by
+-- one. For code addresses it says whether they are reached
 abbrev pub is_reached : ElfFile → Test → ℕ → Bool
 is_reached f t a =
     (t.entry == a)
@@ -140,6 +140,6 @@ pub record IsReached (f : ElfFile) (o : Options) (a : ℕ) : Type 0 where
   pub told : IsTestOf f o test
   pub reached : is_reached f test a ≡ true
 
--- addresses to which a jump by register may lead: any, but where only those that are reached have entries each is one of these
+-- addresses to which a jump by register may lead: any, but only reached ones if only those have entries
 abbrev pub AreReached : ElfFile → Options → (ℕ → Bool) → Type 0
 AreReached f o addresses = o.entries ≡ entries.Reached → (a : ℕ) → addresses a ≡ true → IsReached f o a

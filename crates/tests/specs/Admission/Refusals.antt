@@ -9,7 +9,8 @@ use Rattle.machine.specs.Below.{IsFirstBelow}
 use Rattle.tests.specs.Admission.Places.{base_of, high_of, distance_of, Options, ElfFile, image_of, half_of, code_place}
 use Rattle.tests.specs.Admission.Terms.{is_compressed, is_dynamic}
 use Rattle.tests.specs.Admission.CodeWords.{loads_of, is_code, word_at, AreCodeAddresses}
-use Rattle.tests.specs.Admission.Rules.{passes_at, is_writable_code, is_misshapen_section, is_misshapen_segment, is_unknown, high_at, is_breakpoint, is_far_constant, is_mixed}
+use Rattle.tests.specs.Admission.Rules.{passes_at, is_writable_code, is_misshapen_section, is_misshapen_segment, is_unknown, high_at, is_breakpoint}
+use Rattle.tests.specs.Admission.Rules.{is_far_constant, is_mixed}
 
 -- ---- a part at fault
 -- number i is the first member of a list that passes a test
@@ -24,7 +25,8 @@ IsLeast test a = IsFirstBelow (2 ^ 64) test a
 abbrev pub IsMisshapen : ElfFile → ℕ → Type 0
 IsMisshapen f i =
     IsFirstOf f.sections (is_misshapen_section (loads_of f)) i
-    ⊎ (((k : ℕ) → k < length f.sections → passes_at (is_misshapen_section (loads_of f)) (slice_get f.sections k) ≡ false) × IsFirstOf f.segments (is_misshapen_segment f) i)
+    ⊎ (((k : ℕ) → k < length f.sections → passes_at (is_misshapen_section (loads_of f)) (slice_get f.sections k) ≡ false)
+    × IsFirstOf f.segments (is_misshapen_segment f) i)
 
 -- the code words, which are too many
 pub record HasTooManyWords (f : ElfFile) (n : ℕ) : Type 0 where
@@ -33,7 +35,7 @@ pub record HasTooManyWords (f : ElfFile) (n : ℕ) : Type 0 where
   pub count : n ≡ length addresses
   pub over : limit_of limit.CodeWords < n
 
--- the rule that an error names holds, with the place or number that it carries; want of memory is no rule
+-- the rule that an error names holds, with the place or number that it carries; want of memory is not a rule
 abbrev pub HasFault : ElfFile → Options → AdmitError → Type 0
 HasFault f o error.Compressed = is_compressed f ≡ true
 HasFault f o error.Dynamic = is_dynamic f.segments ≡ true

@@ -1,4 +1,4 @@
--- The rules by which a test is admitted that hold at a place, each as a test at one segment, section or address. Refusals has the
+-- The rules of admission that hold at a place, each as a test at one segment, section or address. Refusals has the
 -- other rules, and the order of all.
 use Rattle.std.specs.Prelude.{ℕ, ◌+◌, ◌^◌, nat_lt, not, ◌&&◌, ◌||◌, Bool, true, false, Option, Some, None, is_none, List, [], ◌∷◌, ℤ, pos, negsuc}
 use Rattle.std.specs.List.{list_any}
@@ -31,7 +31,7 @@ section_range s = (s.address, s.address + s.size)
 abbrev pub segment_range : Segment → ℕ × ℕ
 segment_range s = (s.address, s.address + s.memory)
 
--- an executable section is cut by an executable segment, or is a code range whose start or size is no multiple of 4
+-- an executable section is cut by an executable segment, or is a code range whose start or size is not a multiple of 4
 abbrev pub is_misshapen_section : List LoadSegment → Section → Bool
 is_misshapen_section ls s = is_cut ls s || (is_code_section s && (lies_in_any s ls && is_ragged (section_range s)))
 
@@ -40,7 +40,7 @@ abbrev pub is_empty : {A : Type 0} → List A → Bool
 is_empty [] = true
 is_empty (x ∷ xs) = false
 
--- no section is a code range, and this executable segment is one whose start or size is no multiple of 4
+-- no section is a code range, and the start or size of this executable segment is not a multiple of 4
 abbrev pub is_misshapen_segment : ElfFile → Segment → Bool
 is_misshapen_segment f s = is_empty (section_ranges (loads_of f) f.sections) && (is_in_image s && (is_executed s && is_ragged (segment_range s)))
 
@@ -73,6 +73,6 @@ is_far (negsuc n) = not (nat_lt n (2 ^ 28))
 abbrev pub is_far_constant : ElfFile → ℕ → Bool
 is_far_constant f a = passes_at (λ i. is_auipc i.kind && is_far (distance_between (base_of (image_of f)) (target i a))) (instruction_at f a)
 
--- ---- A10: a segment of the image that is no data segment has a byte in a data range
+-- ---- A10: a segment of the image that is not a data segment has a byte in a data range
 abbrev pub is_mixed : List Segment → Segment → Bool
 is_mixed image s = is_in_image s && (not (is_data image s) && list_any (do_meet (segment_range s)) (data_ranges image))

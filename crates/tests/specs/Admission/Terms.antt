@@ -1,7 +1,8 @@
--- Rules by which tests are admitted, and what names a code address: sentences on the segments, sections, symbols and relocations of
--- a file that was read. Sums are over whole numbers and do not wrap. Ranges are by their first address and the one behind their last;
--- code ranges are those of `code_ranges`.
-use Rattle.std.specs.Prelude.{ℕ, ◌+◌, ◌-◌, ◌%◌, ◌^◌, ◌==◌, ◌&&◌, ◌||◌, not, nat_lt, nat_le, if◌then◌else◌, Bool, Option, Some, None, List, [], ◌∷◌, filter, slice_get}
+-- Rules by which tests are admitted, and what names a code address: sentences on the segments, sections, symbols and
+-- relocations of a file that was read. Sums are over whole numbers and do not wrap. Ranges are by their first address
+-- and the one behind their last; code ranges are those of `code_ranges`.
+use Rattle.std.specs.Prelude.{ℕ, ◌+◌, ◌-◌, ◌%◌, ◌^◌, ◌==◌, ◌&&◌, ◌||◌, not, nat_lt, nat_le, if◌then◌else◌, Bool, Option, Some, None, List, [], ◌∷◌, filter}
+use Rattle.std.specs.Prelude.{slice_get}
 use Rattle.std.specs.List.{list_any}
 use Rattle.std.specs.Option.{option_map, option_or}
 use Rattle.rv_isa.specs.declared.profile.TheConstants.{LAST_ORIGINAL}
@@ -70,8 +71,8 @@ is_code_address rs a = a % 4 == 0 && is_in_any rs a
 abbrev pub is_named : List Symbol → ℕ → Bool
 is_named ss a = list_any (λ s. is_code_symbol s && s.value == a) ss
 
--- the types of relocations that may hold a code address (RISC-V psABI, relocations): 32, 64, BRANCH, JAL, CALL, CALL_PLT,
--- PCREL_HI20, HI20, LO12_I and LO12_S
+-- the types of relocations that may hold a code address (RISC-V psABI, relocations): 32, 64, BRANCH, JAL, CALL,
+-- CALL_PLT, PCREL_HI20, HI20, LO12_I and LO12_S
 abbrev pub code_relocations : List ℕ
 code_relocations = 1 ∷ 2 ∷ 16 ∷ 17 ∷ 18 ∷ 19 ∷ 23 ∷ 26 ∷ 27 ∷ 28 ∷ []
 

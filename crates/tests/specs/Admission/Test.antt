@@ -1,4 +1,4 @@
--- What is told of a test that was admitted.
+-- The facts of a test that was admitted.
 use Rattle.std.specs.Prelude.{◌≡◌, Some, List, map, All}
 use Rattle.tests.specs.declared.test.CodeWord.{CodeWord}
 use Rattle.tests.specs.declared.test.Test.{Test}

@@ -27,7 +27,7 @@ tables_read f =
     ∷ table_read shstrtab_name SHT_STRTAB (length (string_table (section_names f.sections)))
     ∷ []
 
--- entry, flags and segments; the null section, the given ones and the tables; the null symbol and the given ones; no relocation
+-- entry, flags, segments; null section, given ones and tables; null symbol and given ones; no relocation
 abbrev pub file_read : OutFile → ElfFile
 file_read f = record {
   entry = f.entry;

@@ -1,5 +1,6 @@
--- The file that is written: its parts in their order, and where each of them stands. Names are those of the ELF gABI; offsets are in bytes from the file's first.
-use Rattle.std.specs.Prelude.{◌≡◌, ◌≢◌, ℕ, ◌+◌, ◌-◌, ◌*◌, ◌/◌, ◌^◌, ◌<◌, ◌≤◌, ◌==◌, Bool, true, false, nat_le, ◌&&◌, if◌then◌else◌, IsTrue, List, [], ◌∷◌, ◌++◌, length, map, replicate, All, AllPairs}
+-- The written file: its parts in order, and their places. Names are of the ELF gABI; offsets are in bytes from 0.
+use Rattle.std.specs.Prelude.{◌≡◌, ◌≢◌, ℕ, ◌+◌, ◌-◌, ◌*◌, ◌/◌, ◌^◌, ◌<◌, ◌≤◌, ◌==◌, Bool, true, false, nat_le, ◌&&◌, if◌then◌else◌, IsTrue, List, [], ◌∷◌}
+use Rattle.std.specs.Prelude.{◌++◌, length, map, replicate, All, AllPairs}
 use Rattle.std.specs.List.{list_any}
 use Rattle.elf_types.specs.declared.file.Segment.{Segment}
 use Rattle.elf_types.specs.declared.file.Symbol.{Symbol}
@@ -10,7 +11,8 @@ use Rattle.elf_types.specs.declared.records.SymbolEntry.{SymbolEntry}
 use Rattle.machine.specs.declared.limits.Limit.TheVariants as limit
 use Rattle.machine.specs.declared.limits.TheConstants.{MAX_OUTPUT_SECTIONS}
 use Rattle.machine.specs.Limits.{limit_of}
-use Rattle.elf_types.specs.declared.abi.TheConstants.{ELFMAG, ELFCLASS64, ELFDATA2LSB, EV_CURRENT, ET_EXEC, EM_RISCV, EHDR_SIZE, PHDR_SIZE, SHDR_SIZE, PT_LOAD, SHT_NULL, SHT_PROGBITS, SHT_SYMTAB, SHT_STRTAB}
+use Rattle.elf_types.specs.declared.abi.TheConstants.{ELFMAG, ELFCLASS64, ELFDATA2LSB, EV_CURRENT, ET_EXEC, EM_RISCV, EHDR_SIZE, PHDR_SIZE, SHDR_SIZE}
+use Rattle.elf_types.specs.declared.abi.TheConstants.{PT_LOAD, SHT_NULL, SHT_PROGBITS, SHT_SYMTAB, SHT_STRTAB}
 use Rattle.elf_types.specs.Abi.{has_alloc}
 use Rattle.elf_types.specs.Symbol.{is_local}
 use Rattle.elf_types.specs.Overlap.{share_byte}
@@ -78,8 +80,8 @@ abbrev pub null_entry : SymbolEntry
 null_entry = record { name = 0; info = 0; other = 0; index = 0; value = 0; size = 0 }
 
 -- the null symbol and then the given ones, whose names begin behind the first zero byte
-abbrev pub entries_of : List Symbol → List SymbolEntry
-entries_of symbols = null_entry ∷ entries_from 1 symbols
+abbrev pub symbol_entries : List Symbol → List SymbolEntry
+symbol_entries symbols = null_entry ∷ entries_from 1 symbols
 
 -- the number of the first symbol that is not STB_LOCAL, or the number of symbols; `number` counts those before the list
 abbrev pub first_global : ℕ → List Symbol → ℕ
@@ -95,7 +97,7 @@ is_in_memory x = has_alloc x.flags
 abbrev pub is_inside : OutSection → Segment → Bool
 is_inside x s = nat_le s.address x.address && nat_le (x.address + x.size) (s.address + length s.bytes)
 
--- where a section in memory stands in the file: its address, measured from the first segment that it lies inside. The segments' bytes are sought from `at` on
+-- the place in the file of a section in memory, by the first segment around it; segments' bytes are sought from `at` on
 abbrev pub offset_in : ℕ → List Segment → OutSection → ℕ
 offset_in at [] x = 0
 offset_in at (s ∷ segments) x =
@@ -124,7 +126,7 @@ abbrev pub headers_bytes : List SectionHeader → List ℕ
 headers_bytes [] = []
 headers_bytes (h ∷ headers) = header_bytes h ++ headers_bytes headers
 
--- the header, of type SHT_PROGBITS, of a section whose name begins at an offset of the names and whose bytes stand at an offset of the file
+-- the SHT_PROGBITS header of a section, with the offsets of its name among the names and of its bytes in the file
 abbrev pub header_with : ℕ → ℕ → OutSection → SectionHeader
 header_with name offset x = record {
   name = name;
@@ -138,7 +140,7 @@ header_with name offset x = record {
   entsize = 0;
 }
 
--- the headers of the given sections: names stand from `name` on, own bytes from `own` on, the bytes of the segments are sought from `start` on
+-- the headers of given sections: names from `name` on, own bytes from `own` on, segments' bytes sought from `start` on
 abbrev pub headers_from : ℕ → List Segment → ℕ → ℕ → List OutSection → List SectionHeader
 headers_from start segments name own [] = []
 headers_from start segments name own (x ∷ sections) =
@@ -164,18 +166,18 @@ null_header = table_header 0 0 0 0 0 0 0
 
 -- ---- where the parts stand
 -- behind the header and the program headers
-abbrev pub start_of : OutFile → ℕ
-start_of f = 64 + 56 * length f.segments
+abbrev pub parts_start : OutFile → ℕ
+parts_start f = 64 + 56 * length f.segments
 
 -- behind the segments
 unfoldable pub own_place : OutFile → ℕ
-own_place f = end_from (start_of f) f.segments
+own_place f = end_from (parts_start f) f.segments
 
 -- the symbol table
 unfoldable pub symbols_place : OutFile → ℕ
 symbols_place f = aligned (own_place f + length (own_bytes f.sections))
 
--- its string table
+-- the string table of the symbols
 unfoldable pub strings_place : OutFile → ℕ
 strings_place f = symbols_place f + 24 * (1 + length f.symbols)
 
@@ -192,7 +194,7 @@ headers_place f = aligned (names_place f + length (string_table (section_names f
 abbrev pub table_names_at : OutFile → ℕ
 table_names_at f = length (string_table (map (λ x. x.name) f.sections))
 
--- ".symtab": its strings are those of the next section; its info is the number of the first symbol that is not STB_LOCAL
+-- ".symtab": its strings are the next section's; its info is the number of the first symbol that is not STB_LOCAL
 abbrev pub symtab_header : OutFile → SectionHeader
 symtab_header f =
     table_header (table_names_at f) SHT_SYMTAB (symbols_place f) (24 * (1 + length f.symbols)) (length f.sections + 2) (first_global 1 f.symbols) 24
@@ -210,17 +212,17 @@ table_headers f = symtab_header f ∷ strtab_header f ∷ shstrtab_header f ∷ 
 
 -- the null section, the given sections, and the tables that are added
 unfoldable pub headers_of : OutFile → List SectionHeader
-headers_of f = null_header ∷ (headers_from (start_of f) f.segments 1 (own_place f) f.sections ++ table_headers f)
+headers_of f = null_header ∷ (headers_from (parts_start f) f.segments 1 (own_place f) f.sections ++ table_headers f)
 
--- magic, class, encoding, version, padding; type, machine, version, entry, phoff, shoff, flags; ehsize, phentsize, phnum;
--- shentsize, shnum, shstrndx
+-- magic, class, encoding, version, padding; type, machine, version, entry, phoff, shoff, flags; ehsize, phentsize,
+-- phnum; shentsize, shnum, shstrndx
 abbrev pub file_fields : ℕ → ℕ → ℕ → ℕ → ℕ → List (ℕ × ℕ)
 file_fields entry flags segments headers sections =
     (4, ELFMAG) ∷ (1, ELFCLASS64) ∷ (1, ELFDATA2LSB) ∷ (1, EV_CURRENT) ∷ (1, 0) ∷ (8, 0)
     ∷ (2, ET_EXEC) ∷ (2, EM_RISCV) ∷ (4, EV_CURRENT) ∷ (8, entry) ∷ (8, 64) ∷ (8, headers) ∷ (4, flags)
     ∷ (2, EHDR_SIZE) ∷ (2, PHDR_SIZE) ∷ (2, segments) ∷ (2, SHDR_SIZE) ∷ (2, sections + 4) ∷ (2, sections + 3) ∷ []
 
--- its bytes
+-- the bytes of the file header
 abbrev pub file_header : OutFile → List ℕ
 file_header f = fields_bytes (file_fields f.entry f.flags (length f.segments) (headers_place f) (length f.sections))
 
@@ -229,7 +231,7 @@ unfoldable pub tables_bytes : OutFile → List ℕ
 tables_bytes f =
     own_bytes f.sections
     ++ (replicate (symbols_place f - (own_place f + length (own_bytes f.sections))) 0
-    ++ (symbols_bytes (entries_of f.symbols)
+    ++ (symbols_bytes (symbol_entries f.symbols)
     ++ (string_table (symbol_names f.symbols)
     ++ (string_table (section_names f.sections)
     ++ (replicate (headers_place f - (names_place f + length (string_table (section_names f.sections)))) 0
@@ -239,8 +241,8 @@ tables_bytes f =
 unfoldable pub written : OutFile → List ℕ
 written f =
     file_header f
-    ++ (program_headers (start_of f) f.segments
-    ++ (segments_bytes (start_of f) f.segments
+    ++ (program_headers (parts_start f) f.segments
+    ++ (segments_bytes (parts_start f) f.segments
     ++ tables_bytes f))
 
 -- ---- what can be written
@@ -258,7 +260,7 @@ do_share s t = share_byte s.address s.memory t.address t.memory
 abbrev pub IsName : List ℕ → Type 0
 IsName name = All (λ byte. byte ≢ 0) name
 
--- a section in memory has no bytes of its own, and lies inside the file bytes of a segment; any other section has its bytes
+-- a section in memory has no bytes of its own, and lies inside a segment's file bytes; any other section has its bytes
 pub record IsPlaced (segments : List Segment) (x : OutSection) : Type 0 where
   pub none : is_in_memory x ≡ true → x.bytes ≡ []
   pub inside : is_in_memory x ≡ true → IsTrue (list_any (is_inside x) segments)

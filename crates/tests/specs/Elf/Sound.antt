@@ -33,7 +33,7 @@ pub record IsReadFile (f : ElfFile) : Type 0 where
   pub symbols : All IsSymbol f.symbols
   pub names : All (λ s. IsName s.name) f.symbols
 
--- all of it
+-- what is asked of a whole file
 pub record IsSound (f : ElfFile) : Type 0 where
   pub loads : AreLoads (load_segments f.segments)
   pub apart : Pairs ApartLoads f.segments

@@ -23,13 +23,13 @@ abbrev pub end_from : ℕ → List Segment → ℕ
 end_from at [] = at
 end_from at (s ∷ segments) = end_from (offset_from at s.address + length s.bytes) segments
 
--- their program headers
+-- the program headers of segments
 abbrev pub program_headers : ℕ → List Segment → List ℕ
 program_headers at [] = []
 program_headers at (s ∷ segments) =
     fields_bytes (program_fields s (offset_from at s.address)) ++ program_headers (offset_from at s.address + length s.bytes) segments
 
--- their bytes, with zeros between them
+-- the bytes of segments, with zeros between them
 abbrev pub segments_bytes : ℕ → List Segment → List ℕ
 segments_bytes at [] = []
 segments_bytes at (s ∷ segments) =

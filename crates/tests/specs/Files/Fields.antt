@@ -1,4 +1,4 @@
--- The fields of an ELF64 file (ELF gABI). Offsets are in bytes. A field past the end of the file reads as zeros, so that each sentence on fields makes sense of every file.
+-- The fields of an ELF64 file (ELF gABI), by byte offsets. Past the end they read as zeros, for sentences on any file.
 use Rattle.std.specs.Prelude.{ℕ, ◌+◌, ◌*◌, ◌/◌, ◌%◌, ◌^◌, ◌<◌, ◌≤◌, List, length, slice_index}
 use Rattle.std.specs.Int.{w64, cast_signed}
 use Rattle.elf_types.specs.declared.file.Rela.{Rela}

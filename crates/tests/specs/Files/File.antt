@@ -13,7 +13,7 @@ use Rattle.machine.specs.Limits.{limit_of}
 use Rattle.machine.specs.Below.{each, gather}
 use Rattle.tests.specs.Files.Header.{e_entry, e_flags, e_phnum, e_shnum}
 use Rattle.tests.specs.Files.Fields.{program_header, section_header, symbol_entry, rela_entry}
-use Rattle.tests.specs.Files.Rules.{section_bytes, section_name, symbol_name, symbol_table, is_counted, counted_bytes, verdict}
+use Rattle.tests.specs.Files.Rules.{section_bytes, section_name, symbol_name, symbol_table, is_counted_section, counted_bytes, verdict}
 
 -- the bytes of a segment; where it is not PT_LOAD there are none
 unfoldable pub load_bytes : List ℕ → ProgramHeader → List ℕ
@@ -44,7 +44,7 @@ symbols_at file (Some i) = let s = section_header file i in each (s.size / 24) (
 
 -- the relocations of a section, where it is counted
 unfoldable pub relas_of : List ℕ → SectionHeader → List Rela
-relas_of file s = if is_counted file s then each (s.size / 24) (rela_entry (section_bytes file s)) else []
+relas_of file s = if is_counted_section file s then each (s.size / 24) (rela_entry (section_bytes file s)) else []
 
 -- no rule, E1 to E13, refuses the bytes, and each member of f is the stated field
 pub record File (file : List ℕ) (f : ElfFile) : Type 0 where

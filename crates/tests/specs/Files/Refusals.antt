@@ -12,7 +12,8 @@ use Rattle.elf_types.specs.declared.abi.TheConstants.{ELFCLASS64, ELFDATA2LSB, E
 use Rattle.machine.specs.Below.{IsFirstBelow}
 use Rattle.tests.specs.Files.Header.{HasMagic, e_type, e_machine, e_version, e_phoff, e_shoff, e_ehsize, e_phentsize, e_phnum, e_shnum}
 use Rattle.tests.specs.Files.Fields.{e_class, e_encoding, e_ident_version, e_shentsize, e_shstrndx, program_header, section_header, rela_entry}
-use Rattle.tests.specs.Files.Rules.{is_segment_outside, is_section_outside, is_misshapen, do_overlap, is_section_misshapen, is_misnamed, has_entries, has_strings, is_counted, section_bytes, symbol_table, symbol_count, rela_fault, counted_bytes, read_verdict}
+use Rattle.tests.specs.Files.Rules.{is_segment_outside, is_section_outside, is_misshapen, do_overlap, is_section_misshapen, is_misnamed, has_entries}
+use Rattle.tests.specs.Files.Rules.{has_strings, is_counted_section, section_bytes, symbol_table, symbol_count, rela_fault, counted_bytes, read_verdict}
 
 -- the header has the sizes of ELF64, and its numbers are not extended
 pub record HasHeaderShape (file : List ℕ) : Type 0 where
@@ -37,7 +38,7 @@ IsOut file part.SectionTable = (0 < e_shnum file) × (length file < e_shoff file
 IsOut file (part.Segment i) = IsFirstBelow (e_phnum file) (λ k. is_segment_outside file (program_header file k)) i
 IsOut file (part.Section i) = IsFirstBelow (e_shnum file) (λ k. is_section_outside file (section_header file k)) i
 
--- segments i and j share a byte, i below j: no segment before i shares one with a later one, and none between them with i
+-- segments i < j share a byte: no segment before i shares one with a later one, and none between them with i
 pub record IsFirstOverlap (file : List ℕ) (i j : ℕ) : Type 0 where
   pub pair : IsFirstBelow (e_phnum file) (λ k. nat_lt i k && do_overlap (program_header file i) (program_header file k)) j
   pub least : (h k : ℕ) → h < i → h < k → k < e_phnum file → do_overlap (program_header file h) (program_header file k) ≡ false
@@ -54,7 +55,7 @@ pub record IsFirstSymbolFault (file : List ℕ) (j : ℕ) : Type 0 where
 -- section i is the first counted one with a fault: of its shape, then k is 0; or entry k is the first without a symbol
 pub record IsFirstRelaFault (file : List ℕ) (i k : ℕ) : Type 0 where
   pub section : IsFirstBelow (e_shnum file) (λ h. is_some (rela_fault file (section_header file h))) i
-  pub counted : is_counted file (section_header file i) ≡ true
+  pub counted : is_counted_section file (section_header file i) ≡ true
   pub fault :
       ((k ≡ 0) × (has_entries (section_header file i) ≡ false))
       ⊎ ((has_entries (section_header file i) ≡ true)
@@ -79,8 +80,8 @@ HasFault file (error.TooManySections count) = (count ≡ e_shnum file) × (limit
 HasFault file (error.TooManyBytes count) = (count ≡ min (counted_bytes file) (2 ^ 64 - 1)) × (limit_of limit.CountedBytes < counted_bytes file)
 HasFault file error.Memory = ⊥
 
--- the error names the first rule that refuses the file, or else the first limit that it exceeds, and its fault is in the file
-pub record IsRefused (file : List ℕ) (e : ElfError) : Type 0 where
+-- the error names the first rule that refuses the file, or else the first limit it exceeds; its fault is in the file
+pub record IsFileRefused (file : List ℕ) (e : ElfError) : Type 0 where
   pub first : read_verdict file ≡ Err e
   pub fault : HasFault file e
 
@@ -114,4 +115,4 @@ pub record IsAccepted (file : List ℕ) : Type 0 where
   pub apart : (i j : ℕ) → i < j → j < e_phnum file → do_overlap (program_header file i) (program_header file j) ≡ false
   pub section_shapes : (i : ℕ) → i < e_shnum file → is_section_misshapen file i ≡ false
   pub symbols : (i : ℕ) → symbol_table file ≡ Some i → AreSymbols file (section_header file i)
-  pub relas : (i : ℕ) → i < e_shnum file → is_counted file (section_header file i) ≡ true → AreRelas file (section_header file i)
+  pub relas : (i : ℕ) → i < e_shnum file → is_counted_section file (section_header file i) ≡ true → AreRelas file (section_header file i)

@@ -1,5 +1,6 @@
--- The rules by which a file is refused, each a sentence on its bytes, and the first of them that holds. Sums do not wrap. The sources are the ELF gABI and the RISC-V ELF psABI.
-use Rattle.std.specs.Prelude.{◌≡◌, ℕ, ◌+◌, ◌-◌, ◌*◌, ◌/◌, ◌%◌, ◌^◌, ◌<◌, ◌==◌, nat_lt, nat_le, min, Bool, false, ◌&&◌, ◌||◌, not, if◌then◌else◌, Option, Some, None, Result, Ok, Err, List, [], ◌∷◌, length, take, drop, slice_index}
+-- The rules that refuse a file, sentences on its bytes, and the first that holds (ELF gABI, psABI). Sums do not wrap.
+use Rattle.std.specs.Prelude.{◌≡◌, ℕ, ◌+◌, ◌-◌, ◌*◌, ◌/◌, ◌%◌, ◌^◌, ◌<◌, ◌==◌, nat_lt, nat_le, min, Bool, false, ◌&&◌, ◌||◌, not, if◌then◌else◌, Option, Some}
+use Rattle.std.specs.Prelude.{None, Result, Ok, Err, List, [], ◌∷◌, length, take, drop, slice_index}
 use Rattle.std.specs.Option.{is_some, unwrap_or}
 use Rattle.elf_types.specs.declared.error.ElfError.{ElfError}
 use Rattle.elf_types.specs.declared.error.ElfError.TheVariants as error
@@ -12,10 +13,11 @@ use Rattle.elf_types.specs.declared.abi.TheConstants.{ELFMAG, ELFCLASS64, ELFDAT
 use Rattle.elf_types.specs.Abi.{is_load, has_alloc, is_symbol_table, is_string_table, is_rela_table}
 pub use Rattle.elf_types.specs.Section.{has_bytes}
 use Rattle.elf_types.specs.Overlap.{share_byte}
-use Rattle.machine.specs.Below.{first, sum_below}
+use Rattle.machine.specs.Below.{first_below, sum_below}
 use Rattle.machine.specs.Numbers.{is_at, field}
 use Rattle.tests.specs.Files.Header.{e_type, e_machine, e_version, e_phoff, e_shoff, e_ehsize, e_phentsize, e_phnum, e_shnum}
-use Rattle.tests.specs.Files.Fields.{HasTables, e_class, e_encoding, e_ident_version, e_shentsize, e_shstrndx, program_header, section_header, symbol_entry, rela_entry}
+use Rattle.tests.specs.Files.Fields.{HasTables, e_class, e_encoding, e_ident_version, e_shentsize, e_shstrndx, program_header, section_header, symbol_entry}
+use Rattle.tests.specs.Files.Fields.{rela_entry}
 
 -- ---- what a rule says
 
@@ -64,7 +66,8 @@ encoding_rule file = refuse (error.Encoding (e_encoding file)) (not (e_encoding 
 -- EV_CURRENT, in the identification and in the header
 unfoldable pub version_rule : List ℕ → Check
 version_rule file =
-    if e_ident_version file == EV_CURRENT then refuse (error.Version (e_version file)) (not (e_version file == EV_CURRENT)) else Err (error.Version (e_ident_version file))
+    if e_ident_version file == EV_CURRENT then refuse (error.Version (e_version file)) (not (e_version file == EV_CURRENT))
+    else Err (error.Version (e_ident_version file))
 
 -- ET_EXEC
 unfoldable pub file_type_rule : List ℕ → Check
@@ -103,7 +106,7 @@ header_rules file =
 
 -- ---- the parts that lie in the file
 
--- so many bytes from a place on end past the end of the file
+-- n bytes from a place on end past the end of the file
 abbrev pub is_past : List ℕ → ℕ → ℕ → Bool
 is_past file place size = nat_lt (length file) (place + size)
 
@@ -118,14 +121,14 @@ unfoldable pub is_segment_outside : List ℕ → ProgramHeader → Bool
 is_segment_outside file p = is_load p.kind && nat_lt 0 p.filesz && is_past file p.offset p.filesz
 
 unfoldable pub segment_place_rule : List ℕ → Check
-segment_place_rule file = refuse_found (λ i. error.OutOfFile (part.Segment i)) (first (e_phnum file) (λ i. is_segment_outside file (program_header file i)))
+segment_place_rule file = refuse_found (λ i. error.OutOfFile (part.Segment i)) (first_below (e_phnum file) (λ i. is_segment_outside file (program_header file i)))
 
 -- bytes of a section end past the end of the file
 unfoldable pub is_section_outside : List ℕ → SectionHeader → Bool
 is_section_outside file s = has_bytes s && is_past file s.offset s.size
 
 unfoldable pub section_place_rule : List ℕ → Check
-section_place_rule file = refuse_found (λ i. error.OutOfFile (part.Section i)) (first (e_shnum file) (λ i. is_section_outside file (section_header file i)))
+section_place_rule file = refuse_found (λ i. error.OutOfFile (part.Section i)) (first_below (e_shnum file) (λ i. is_section_outside file (section_header file i)))
 
 -- the bytes of a section
 unfoldable pub section_bytes : List ℕ → SectionHeader → List ℕ
@@ -144,7 +147,7 @@ unfoldable pub is_misshapen : ProgramHeader → Bool
 is_misshapen p = is_load p.kind && (nat_lt p.memsz p.filesz || nat_lt (2 ^ 64) (p.vaddr + p.memsz))
 
 unfoldable pub segment_shape_rule : List ℕ → Check
-segment_shape_rule file = refuse_found error.SegmentShape (first (e_phnum file) (λ i. is_misshapen (program_header file i)))
+segment_shape_rule file = refuse_found error.SegmentShape (first_below (e_phnum file) (λ i. is_misshapen (program_header file i)))
 
 -- two segments share a byte of memory
 unfoldable pub do_overlap : ProgramHeader → ProgramHeader → Bool
@@ -152,16 +155,16 @@ do_overlap p q = is_load p.kind && is_load q.kind && share_byte p.vaddr p.memsz 
 
 -- the first segment behind segment i that shares a byte with it
 unfoldable pub overlapped : List ℕ → ℕ → Option ℕ
-overlapped file i = first (e_phnum file) (λ j. nat_lt i j && do_overlap (program_header file i) (program_header file j))
+overlapped file i = first_below (e_phnum file) (λ j. nat_lt i j && do_overlap (program_header file i) (program_header file j))
 
 unfoldable pub segment_overlap_rule : List ℕ → Check
-segment_overlap_rule file = refuse_found_at error.SegmentOverlap (overlapped file) (first (e_phnum file) (λ i. is_some (overlapped file i)))
+segment_overlap_rule file = refuse_found_at error.SegmentOverlap (overlapped file) (first_below (e_phnum file) (λ i. is_some (overlapped file i)))
 
 -- ---- names
 
 -- how many bytes of a string table stand from a place up to the first zero byte, where there is one
 unfoldable pub name_length : List ℕ → ℕ → Option ℕ
-name_length strings place = first (length strings - place) (λ k. slice_index strings (place + k) == 0)
+name_length strings place = first_below (length strings - place) (λ k. slice_index strings (place + k) == 0)
 
 -- a name that has no end
 abbrev pub is_unended : List ℕ → ℕ → Bool
@@ -177,15 +180,16 @@ name_at strings place = if place == 0 then [] else take (unwrap_or (name_length 
 abbrev pub names_header : List ℕ → SectionHeader
 names_header file = section_header file (e_shstrndx file)
 
--- section i is in memory and ends past 2^64; or should hold the names, and is no string table; or its name has no end
+-- section i in memory ends past 2^64; or it should hold the names, but is not a string table; or its name has no end
 unfoldable pub is_section_misshapen : List ℕ → ℕ → Bool
 is_section_misshapen file i =
     (has_alloc (section_header file i).flags && nat_lt (2 ^ 64) ((section_header file i).addr + (section_header file i).size))
     || (not (e_shstrndx file == 0) && i == e_shstrndx file && not (is_string_table (section_header file i).kind))
-    || (not (e_shstrndx file == 0) && is_string_table (names_header file).kind && is_unended (section_bytes file (names_header file)) (section_header file i).name)
+    || (not (e_shstrndx file == 0) && is_string_table (names_header file).kind
+    && is_unended (section_bytes file (names_header file)) (section_header file i).name)
 
 unfoldable pub section_shape_rule : List ℕ → Check
-section_shape_rule file = refuse_found error.SectionShape (first (e_shnum file) (is_section_misshapen file))
+section_shape_rule file = refuse_found error.SectionShape (first_below (e_shnum file) (is_section_misshapen file))
 
 -- the string table of the sections; where there is none, no section has a name
 unfoldable pub section_strings : List ℕ → List ℕ
@@ -198,7 +202,7 @@ section_name file i = name_at (section_strings file) (section_header file i).nam
 
 -- the number of the first section of type SHT_SYMTAB
 unfoldable pub symbol_table : List ℕ → Option ℕ
-symbol_table file = first (e_shnum file) (λ i. is_symbol_table (section_header file i).kind)
+symbol_table file = first_below (e_shnum file) (λ i. is_symbol_table (section_header file i).kind)
 
 -- entries of 24 bytes, and nothing else
 abbrev pub has_entries : SectionHeader → Bool
@@ -219,7 +223,7 @@ is_misnamed file s j = nat_lt 0 j && is_unended (strings_of file s) (symbol_entr
 -- of a symbol table: its shape, and then the names of its symbols
 unfoldable pub symbols_rule : List ℕ → SectionHeader → Check
 symbols_rule file s =
-    if has_entries s && has_strings file s then refuse_found error.SymbolShape (first (s.size / 24) (is_misnamed file s)) else Err (error.SymbolShape 0)
+    if has_entries s && has_strings file s then refuse_found error.SymbolShape (first_below (s.size / 24) (is_misnamed file s)) else Err (error.SymbolShape 0)
 
 -- what is asked of a record, where there is one
 abbrev pub rule_at : (ℕ → Check) → Option ℕ → Check
@@ -245,18 +249,19 @@ symbol_name file s j = if j == 0 then [] else name_at (strings_of file s) (symbo
 -- ---- relocations
 
 -- SHT_RELA, for a section in memory, against the symbol table; all other relocations are passed over
-abbrev pub is_counted : List ℕ → SectionHeader → Bool
-is_counted file s = is_rela_table s.kind && nat_lt s.info (e_shnum file) && has_alloc (section_header file s.info).flags && is_at (symbol_table file) s.link
+abbrev pub is_counted_section : List ℕ → SectionHeader → Bool
+is_counted_section file s = is_rela_table s.kind && nat_lt s.info (e_shnum file) && has_alloc (section_header file s.info).flags && is_at (symbol_table file) s.link
 
 -- of a counted section, the first entry without a symbol, or 0 where the shape of the section is at fault
 unfoldable pub rela_fault : List ℕ → SectionHeader → Option ℕ
 rela_fault file s =
-    if is_counted file s
-    then (if has_entries s then first (s.size / 24) (λ k. nat_le (symbol_count file) (rela_entry (section_bytes file s) k).symbol) else Some 0)
+    if is_counted_section file s
+    then (if has_entries s then first_below (s.size / 24) (λ k. nat_le (symbol_count file) (rela_entry (section_bytes file s) k).symbol) else Some 0)
     else None
 
 unfoldable pub rela_shape_rule : List ℕ → Check
-rela_shape_rule file = refuse_found_at error.RelaShape (λ i. rela_fault file (section_header file i)) (first (e_shnum file) (λ i. is_some (rela_fault file (section_header file i))))
+rela_shape_rule file = refuse_found_at error.RelaShape (λ i. rela_fault file (section_header file i))
+    (first_below (e_shnum file) (λ i. is_some (rela_fault file (section_header file i))))
 
 -- ---- limits of the reader, beside the rules
 

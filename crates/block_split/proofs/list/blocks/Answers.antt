@@ -3,7 +3,7 @@ use Rattle.std.specs.Prelude.{All}
 use Rattle.machine.specs.Sets.{has_address}
 use Rattle.flow_recovery.specs.Sets.{lists}
 use Rattle.qed_model.specs.Weave.Blocks.{AreBlocks}
-use Rattle.block_split.specs.Listed.{block_of, IsWithin}
+use Rattle.block_split.specs.Listed.{block_of, IsWithinTop}
 use Rattle.block_split.proofs.BlockLaws.{are_blocks, same_built}
 use Rattle.block_split.proofs.ExtentLaws.{blocks_within}
 use Rattle.block_split.proofs.list.blocks.Goals as goal
@@ -23,4 +23,4 @@ returns-clause-within c =
     let most = c.args.options.now.inst_max in
     let leads = lists c.in_ok-leaders.leaders.items in
     let built = same_built c.has_every-every.result (has_address c.in_ok-reached.reached) most c.in_ok-list.list.items _ _ _ _ c.as_slice-2.ensures.value c.as_slice.ensures c.in_ok-list.ensures in
-    λ top small. subst (All (IsWithin top)) (sym c.of.ensures) (blocks_within f c.args.options.now leads c.in_ok-leaders.ensures.exact c.has_every-every.result (has_address c.in_ok-reached.reached) most c.args.test.now.code c.in_ok-list.list.items c.requires.test.code built top small)
+    λ top small. subst (All (IsWithinTop top)) (sym c.of.ensures) (blocks_within f c.args.options.now leads c.in_ok-leaders.ensures.exact c.has_every-every.result (has_address c.in_ok-reached.reached) most c.args.test.now.code c.in_ok-list.list.items c.requires.test.code built top small)

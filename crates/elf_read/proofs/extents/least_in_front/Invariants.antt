@@ -2,7 +2,7 @@ use Rattle.std.proofs.Common.{◌<◌, ◌≤◌, ℕ, get_or}
 use Rattle.elf_read.specs.declared.extents.Extent.{Extent}
 use Rattle.elf_read.proofs.extents.least_in_front.Given as goal
 
--- none so far ends behind what is reached, and those so far that begin before one in front of them ends have no number below the least
+-- so far none ends behind what is reached; those that begin before one in front ends have numbers from the least on
 abbrev pub invariant-loop-x : goal.invariant-loop-x
 invariant-loop-x l = record {
   reached : (k : ℕ) (d : Extent) → k < l.x-index → (get_or l.extents k d).end ≤ l.reached;

@@ -2,7 +2,7 @@ use Rattle.std.proofs.Common.{◌≡◌, ℕ, List, [], ◌∷◌, ◌++◌, map
 use Rattle.std.specs.Prelude.{All}
 use Rattle.elf_types.specs.declared.output.OutSection.{OutSection}
 use Rattle.tests.specs.Elf.Written.{program_headers, segments_bytes}
-use Rattle.tests.specs.Elf.Layout.{file_header, start_of, own_bytes, symbols_bytes, entries_of, names_bytes, symbol_names, table_names, header_bytes, headers_bytes, headers_from, null_header, table_headers, own_place, headers_of, written, tables_bytes}
+use Rattle.tests.specs.Elf.Layout.{file_header, parts_start, own_bytes, symbols_bytes, symbol_entries, names_bytes, symbol_names, table_names, header_bytes, headers_bytes, headers_from, null_header, table_headers, own_place, headers_of, written, tables_bytes}
 use Rattle.elf_write.specs.Widths.{SegmentFits, SectionFits, SymbolFits}
 use Rattle.elf_write.proofs.Sizes.{names_bytes-append, headers_bytes-append}
 use Rattle.elf_write.proofs.parts.push_parts.Goals as goal
@@ -43,8 +43,8 @@ returns-clause-bytes c =
       c.requires.places.headers,
       c.requires.places.names_end,
       names_bytes-append (map (λ (x : OutSection). x.name) f.sections) table_names,
-      headers_bytes-append (headers_from (start_of f) f.segments 1 (own_place f) f.sections) (table_headers f),
-    ) (joined c.args.out.now.items (file_header f) (program_headers (start_of f) f.segments) (segments_bytes (start_of f) f.segments) (own_bytes f.sections) _ (symbols_bytes (entries_of f.symbols)) (names_bytes (symbol_names f.symbols)) (names_bytes (map (λ x. x.name) f.sections)) (names_bytes table_names) _ (header_bytes null_header) (headers_bytes (headers_from (start_of f) f.segments 1 (own_place f) f.sections)) (headers_bytes (table_headers f)))
+      headers_bytes-append (headers_from (parts_start f) f.segments 1 (own_place f) f.sections) (table_headers f),
+    ) (joined c.args.out.now.items (file_header f) (program_headers (parts_start f) f.segments) (segments_bytes (parts_start f) f.segments) (own_bytes f.sections) _ (symbols_bytes (symbol_entries f.symbols)) (names_bytes (symbol_names f.symbols)) (names_bytes (map (λ x. x.name) f.sections)) (names_bytes table_names) _ (header_bytes null_header) (headers_bytes (headers_from (parts_start f) f.segments 1 (own_place f) f.sections)) (headers_bytes (table_headers f)))
 
 pub returns-clause-fits : goal.returns-clause-fits
 returns-clause-fits c = record {

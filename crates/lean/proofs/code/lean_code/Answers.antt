@@ -4,9 +4,9 @@ use Rattle.weave.specs.Form.{code_to_stub}
 use Rattle.elf_types.specs.declared.file.ElfFile.{ElfFile}
 use Rattle.qed_model.specs.Weave.Placed.{leads_to}
 use Rattle.qed_model.specs.Weave.Woven.{lean}
-use Rattle.weave.specs.Code.{HasCause}
+use Rattle.weave.specs.Code.{HasCodeCause}
 use Rattle.lean.specs.Code.{IsLeanCut}
-use Rattle.lean.specs.Form.{code_of}
+use Rattle.lean.specs.Form.{lean_code_of}
 use Rattle.lean.proofs.Forms.{fit, half_small, ascend, low, cause, come, linked_is}
 use Rattle.lean.proofs.Owned.{owned}
 use Rattle.lean.proofs.code.lean_code.Goals as goal
@@ -21,7 +21,7 @@ pub counted-requires-clause-own : goal.counted-requires-clause-own
 counted-requires-clause-own c = owned c.requires.0 c.args.options.now c.args.every c.args.blocks.now c.requires.1.cut c.in_ok-weaver.weaver c.in_ok-weaver.ensures.blocks (fit c.requires.0 c.args.options.now c.args.every c.args.test.now c.args.blocks.now c.requires.1)
 
 pub lay-requires-clause-counted : goal.lay-requires-clause-counted
-lay-requires-clause-counted c = (code_to_stub (code_of c.in_ok-weaver.weaver) c.args.test.now.distance c.args.test.now.entry (map block_of c.args.blocks.now), c.in_ok-count.ensures.counted)
+lay-requires-clause-counted c = (code_to_stub (lean_code_of c.in_ok-weaver.weaver) c.args.test.now.distance c.args.test.now.entry (map block_of c.args.blocks.now), c.in_ok-count.ensures.counted)
 
 -- the entries are known
 pub place-requires-clause-rows : goal.place-requires-clause-rows
@@ -60,6 +60,6 @@ returns-clause-code c = λ f cut.
 pub returns-in_err-layout-clause-cause : goal.returns-in_err-layout-clause-cause
 returns-in_err-layout-clause-cause c =
     let e = c.in_err-layout.field-0.0 in
-    let has : (f : ElfFile) → IsLeanCut f c.args.options.now c.args.every c.args.test.now c.args.blocks.now → HasCause (lean f c.args.options.now c.args.every (map block_of c.args.blocks.now)) e = λ f cut.
+    let has : (f : ElfFile) → IsLeanCut f c.args.options.now c.args.every c.args.test.now c.args.blocks.now → HasCodeCause (lean f c.args.options.now c.args.every (map block_of c.args.blocks.now)) e = λ f cut.
     cause f c.args.options.now c.args.every c.args.test.now c.args.blocks.now cut c.in_ok-weaver.weaver c.in_ok-weaver.ensures.code c.in_ok-count.count c.in_ok-count.ensures.form c.in_ok-count.ensures.counted e c.in_err-layout.ensures.cause in
     search rules

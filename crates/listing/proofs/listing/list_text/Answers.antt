@@ -4,7 +4,7 @@ use Rattle.std.proofs.lemmas.List.Sorted.{IsNonDecreasingBy-from_sort_by_key}
 use Rattle.machine.specs.Apart.{AreApart}
 use Rattle.machine.specs.Loading.{load_segments}
 use Rattle.tests.specs.Ranges.{span, spans}
-use Rattle.listing.specs.Homes.{IsHeld, image_word}
+use Rattle.listing.specs.Homes.{IsHeldRange, image_word}
 use Rattle.listing.specs.Listing.{lines}
 use Rattle.listing.specs.Addresses.{addresses}
 use Rattle.listing.proofs.Ranges.{all_held}
@@ -16,8 +16,8 @@ lines_of-requires-clause-apart c = subst (λ ss. AreApart (load_segments ss)) (s
 
 pub lines_of-requires-clause-held : goal.lines_of-requires-clause-held
 lines_of-requires-clause-held c =
-    subst (λ rs. All (λ r. IsHeld (load_segments c.as_slice.result.now) (span r)) rs) (sym c.deref.ensures.value)
-    (subst (λ ss. All (λ r. IsHeld (load_segments ss) (span r)) c.sort_unstable_by_key.new.self.items) (sym c.as_slice.ensures)
+    subst (λ rs. All (λ r. IsHeldRange (load_segments c.as_slice.result.now) (span r)) rs) (sym c.deref.ensures.value)
+    (subst (λ ss. All (λ r. IsHeldRange (load_segments ss) (span r)) c.sort_unstable_by_key.new.self.items) (sym c.as_slice.ensures)
     (all_held c.args.file.now c.in_ok-ranges.ranges.items c.sort_unstable_by_key.new.self.items c.in_ok-ranges.ensures c.sort_unstable_by_key.ensures.permutation))
 
 pub returns : goal.returns

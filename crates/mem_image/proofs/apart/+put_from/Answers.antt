@@ -1,6 +1,6 @@
 use Rattle.std.proofs.Common.{◌≡◌, ◌+◌, ◌<◌, true, sym, subst, arith}
 use Rattle.machine.specs.Memory.{wrap}
-use Rattle.mem_image.specs.Overlap.{AreSound}
+use Rattle.mem_image.specs.Overlap.{AreImage}
 use Rattle.mem_image.specs.Segments.{has_all}
 use Rattle.mem_image.proofs.SegmentLaws.{first_is}
 use Rattle.mem_image.proofs.ApartLaws.{has_one, set_more, set_passed, put_back, sound_set}
@@ -27,7 +27,7 @@ pub returns-in-Err-clause-kept : goal.returns-in-Err-clause-kept
 returns-in-Err-clause-kept t c = put_back c.args.pages.now c.put_from-2.new.pages c.in-Some.at _ c.index-pages-at.result c.put.new.self c.in_ok-before.before c.in-Some.ensures.some c.index-pages-at.is c.in-Err.ensures.kept c.in_ok-before.ensures
 
 pub returns-in-Err-clause-sound : goal.returns-in-Err-clause-sound
-returns-in-Err-clause-sound t c = subst AreSound (sym (returns-in-Err-clause-kept t c)) c.requires.sound
+returns-in-Err-clause-sound t c = subst AreImage (sym (returns-in-Err-clause-kept t c)) c.requires.sound
 
 pub returns-in-Ok-clause-put : goal.returns-in-Ok-clause-put
 returns-in-Ok-clause-put t c = λ m high before.

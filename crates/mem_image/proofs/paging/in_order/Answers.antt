@@ -1,6 +1,6 @@
 use Rattle.std.proofs.Common.{◌≡◌, length, arith, rules}
 use Rattle.std.proofs.lemmas.List.Sorted.{IsNonDecreasingBy-from_sort_by_key}
-use Rattle.mem_image.specs.Overlap.{segment_of, segments_of}
+use Rattle.mem_image.specs.Overlap.{plain_segment, segments_of}
 use Rattle.mem_image.proofs.OverlapLaws.{seen_there}
 use Rattle.mem_image.proofs.PagingLaws.{orders_none, orders_more, orders_moved}
 use Rattle.mem_image.proofs.paging.in_order.Goals as goal
@@ -10,9 +10,9 @@ loop-i-init c = rw c.new-order.ensures.items (orders_none (segments_of c.args.sp
 
 pub loop-i-preserved : goal.loop-i-preserved
 loop-i-preserved c =
-    let here = seen_there segment_of c.args.specs.now c.loop-i.i c.index-specs-i.result c.loop-i-test.true c.index-specs-i.is in
+    let here = seen_there plain_segment c.args.specs.now c.loop-i.i c.index-specs-i.result c.loop-i-test.true c.index-specs-i.is in
     let some = c.if-spec-eq0.false in
-    rw c.in_ok-push.ensures.items (orders_more (segments_of c.args.specs.now) c.loop-i.order.items c.loop-i.i (segment_of c.index-specs-i.result) here (omega (arith, some)) c.loop-i.invariant)
+    rw c.in_ok-push.ensures.items (orders_more (segments_of c.args.specs.now) c.loop-i.order.items c.loop-i.i (plain_segment c.index-specs-i.result) here (omega (arith, some)) c.loop-i.invariant)
 
 pub returns-clause-all : goal.returns-clause-all
 returns-clause-all c =

@@ -1,5 +1,5 @@
 use Rattle.std.proofs.Common.{◌≡◌, ℕ, List, [], drop, length, Option}
-use Rattle.qed_top.specs.Answer.{IsSteady, RoseAt}
+use Rattle.qed_top.specs.Answer.{IsFaultless, RoseAt}
 use Rattle.qed_top.specs.Loads.{OverLoads}
 use Rattle.qed_top.specs.World.{FilesCallFor, programs, AreSound}
 use Rattle.qed_top.specs.declared.answer.Answer.{Answer}
@@ -13,7 +13,7 @@ invariant-loop-name g l =
     let before = shelf.load_faults l.fn.shelf in
     record {
       same : shelf.files l.shelf ≡ told;
-      steady : IsSteady shelf l.fn.shelf l.shelf;
+      steady : IsFaultless shelf l.fn.shelf l.shelf;
       count : length l.files.items ≡ l.name-index;
       sound : AreSound (programs l.files.items);
       leads :

@@ -14,7 +14,7 @@ abs-le (negsuc n) h = omega arith
 abs-product : (x y : ℤ) → mag x < 2 ^ 63 → mag y < 2 ^ 63 → unsigned_abs (x *ℤ y) ≤ 2 ^ 126
 abs-product x y hx hy = omega (arith, unsigned_abs-mul x y, mul-le-mul (abs-le x hx) (abs-le y hy))
 
--- its high half
+-- the high half of such a product
 high : (z : ℤ) → unsigned_abs z ≤ 2 ^ 126 → of_z w64 (to_z w64 (of_z w64 (to_z w128 (of_z w128 (shr_z (to_z w128 (of_z w128 z)) (2 ^ 64)))))) ≡ wrapped (floor_shift z 64)
 high (pos n) h =
     let whole : to_z w128 (of_z w128 (pos n)) ≡ pos n = omega (arith, ints) in
@@ -27,7 +27,7 @@ high (negsuc n) h =
     let low : to_z w64 (of_z w64 (negsuc (n / 2 ^ 64))) ≡ negsuc (n / 2 ^ 64) = omega (arith, ints) in
     rw (whole, half, low) (omega arith)
 
--- the same for factors that were widened
+-- the high half of a product of factors that were widened
 widened : (x y : ℤ) → mag x < 2 ^ 63 → mag y < 2 ^ 63 → of_z w64 (to_z w64 (of_z w64 (to_z w128 (of_z w128 (shr_z (to_z w128 (of_z w128 (to_z w128 (of_z w128 (to_z w64 (of_z w64 x))) *ℤ to_z w128 (of_z w128 (to_z w64 (of_z w64 y)))))) (2 ^ 64)))))) ≡ wrapped (floor_shift (x *ℤ y) 64)
 widened x y hx hy =
     let fx : to_z w128 (of_z w128 (to_z w64 (of_z w64 x))) ≡ x = omega (arith, ints) in

@@ -2,14 +2,14 @@ use Rattle.std.proofs.Common.{lit<, ◌≡◌, ◌+◌, ◌∷◌, [], ◌++◌,
 use Rattle.std.proofs.lemmas.List.{length_push}
 use Rattle.machine.specs.Below.{gather}
 use Rattle.rv_asm.specs.Lines.{lines_of}
-use Rattle.rv_asm.specs.Named.{named}
+use Rattle.rv_asm.specs.Named.{label_named}
 use Rattle.rv_asm.specs.Program.{IsSoFar}
-use Rattle.rv_asm.specs.Assembled.{place_behind, symbol_in, code_of, data_of, symbols_of}
+use Rattle.rv_asm.specs.Assembled.{place_behind, symbol_in, code_of_lines, data_of, symbols_of}
 use Rattle.rv_asm.proofs.Turns.{line_turn, lines_end, before_next, given_same, first_fault, so_far_more}
 use Rattle.rv_asm.proofs.program.program_of.Goals as goal
 
 pub loop-line-init : goal.loop-line-init
-unfolding place_behind code_of data_of symbols_of gather
+unfolding place_behind code_of_lines data_of symbols_of gather
 loop-line-init c = record {
   before = record { counted = refl; placed = refl; code_near = lit< tt; values_near = lit< tt };
   so_far = record { faultless = λ i l. absurd (omega (arith, l)); code = c.new-code.ensures.items; words = c.new-values.ensures.items; symbols = c.new-symbols.ensures.items };
@@ -22,7 +22,7 @@ returns-in-Err c =
     let lines = lines_of c.args.text.now in
     let n = length c.loop-line.yielded in
     let p = c.parts-line.result in
-    let same = given_same lines n c.in-Some.line.now (named c.in_ok-labels.labels) c.loop-line.place c.loop-line.number p.head p.word.now p.rest.now t c.in_ok-labels.ensures c.loop-line.invariant.before.placed c.loop-line.invariant.before.counted c.parts-line.ensures.head c.parts-line.ensures.word c.parts-line.ensures.rest in
+    let same = given_same lines n c.in-Some.line.now (label_named c.in_ok-labels.labels) c.loop-line.place c.loop-line.number p.head p.word.now p.rest.now t c.in_ok-labels.ensures c.loop-line.invariant.before.placed c.loop-line.invariant.before.counted c.parts-line.ensures.head c.parts-line.ensures.word c.parts-line.ensures.rest in
     first_fault c.args.text.now n c.loop-line.number c.in-Some.line.now c.in-Err.fault t c.loop-line.invariant.before.counted c.loop-line.invariant.so_far.faultless (sym same ∙ (sym c.give.ensures ∙ c.in-Err.is))
 
 pub loop-line-preserved : goal.loop-line-preserved
@@ -33,7 +33,7 @@ loop-line-preserved c =
     let n = length c.loop-line.yielded in
     let p = c.parts-line.result in
     let i = c.loop-line.invariant in
-    let same = given_same lines n c.in-Some.line.now (named c.in_ok-labels.labels) c.loop-line.place c.loop-line.number p.head p.word.now p.rest.now t c.in_ok-labels.ensures i.before.placed i.before.counted c.parts-line.ensures.head c.parts-line.ensures.word c.parts-line.ensures.rest in
+    let same = given_same lines n c.in-Some.line.now (label_named c.in_ok-labels.labels) c.loop-line.place c.loop-line.number p.head p.word.now p.rest.now t c.in_ok-labels.ensures i.before.placed i.before.counted c.parts-line.ensures.head c.parts-line.ensures.word c.parts-line.ensures.rest in
     let one_on : n + 1 ≡ length (c.loop-line.yielded ++ c.in-Some.line ∷ []) = sym (length_push c.loop-line.yielded c.in-Some.line) in
     let e = c.in_ok-add-in-Ok.ensures in
     record {

@@ -2,7 +2,7 @@ use Rattle.std.proofs.Common.{◌∙◌, ap, sym, rules}
 use Rattle.tests.specs.Admission.Refusals.{IsRefusedBy}
 use Rattle.test_admission.specs.declared.rules.CodeRule.TheVariants as rule
 use Rattle.test_admission.specs.Faults.{first_among}
-use Rattle.test_admission.specs.Stretches.{parts_of}
+use Rattle.test_admission.specs.Stretches.{stretch_parts}
 use Rattle.test_admission.proofs.OrderLaws.{admitted, cause_of}
 use Rattle.test_admission.proofs.check.check_rules.Goals as goal
 
@@ -23,7 +23,7 @@ returns c = record {
   admitted = admitted c.args.file.now c.args.options.now c.in_ok-check_top.ensures.order;
   ranges = c.in_ok-ranges.ensures;
   code = c.in_ok-code.ensures;
-  known = ap (λ ss. first_among rule.Unknown (parts_of ss)) (sym c.deref-3.ensures.value) ∙ c.in_ok-check_code.ensures.known;
+  known = ap (λ ss. first_among rule.Unknown (stretch_parts ss)) (sym c.deref-3.ensures.value) ∙ c.in_ok-check_code.ensures.known;
   places = c.image_places-places.ensures;
   small = c.in_ok-check_span.ensures.small;
   spans = c.in_ok-spans.ensures;

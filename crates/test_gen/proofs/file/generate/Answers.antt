@@ -2,7 +2,7 @@ use Rattle.std.proofs.Common.{◌≡◌, ◌∙◌, ap, sym, subst}
 use Rattle.tests.specs.Files.File.{IsReadAs}
 use Rattle.tests.specs.Elf.FileRead.{file_read}
 use Rattle.tests.specs.Elf.Layout.{written, IsWritable}
-use Rattle.test_gen.specs.Generated.{file_with, generated}
+use Rattle.test_gen.specs.Generated.{generated_file_of, generated}
 use Rattle.test_gen.specs.Outputs.{IsWeavable}
 use Rattle.test_gen.proofs.Within.{test_weavable}
 use Rattle.test_gen.proofs.Admitted.{admitted}
@@ -21,7 +21,7 @@ returns c =
     let size = c.args.size in
     let some = c.requires.some in
     let most = c.requires.most in
-    let is : c.in_ok-file.file ≡ generated seed size = c.in_ok-file.ensures ∙ ap (file_with seed) c.function_count.ensures.value in
+    let is : c.in_ok-file.file ≡ generated seed size = c.in_ok-file.ensures ∙ ap (generated_file_of seed) c.function_count.ensures.value in
     let same : bytes ≡ written (generated seed size) = c.in_ok-bytes.ensures.written ∙ ap written is in
     let read = subst (λ g. IsReadAs bytes (file_read g)) is c.in_ok-bytes.ensures.reads_back in
     record {

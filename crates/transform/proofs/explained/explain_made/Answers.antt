@@ -1,5 +1,5 @@
 use Rattle.std.proofs.Common.{◌+◌, ◌*◌, refl}
-use Rattle.transform.specs.Made.{IsMade}
+use Rattle.transform.specs.Made.{IsMadeFile}
 use Rattle.transform.proofs.Explaining.{explained_of}
 use Rattle.transform.proofs.explained.explain_made.Goals as goal
 

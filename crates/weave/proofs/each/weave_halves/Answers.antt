@@ -4,7 +4,7 @@ use Rattle.qed_model.specs.Weave.Forms.{mirror_of}
 use Rattle.qed_model.specs.Weave.Parts.{each_parts}
 use Rattle.qed_model.specs.Weave.Sequences.{Ins, original, guards}
 use Rattle.qed_model.specs.Weave.Costs.{used}
-use Rattle.weave_core.specs.Parts.{bare}
+use Rattle.weave_core.specs.Parts.{unguarded}
 use Rattle.weave_core.proofs.Lemmas.{guarded_original}
 use Rattle.weave.specs.Handed.{Comes, Handed}
 use Rattle.weave.proofs.Taking.{begun, comes, on, last, ended}
@@ -12,8 +12,8 @@ use Rattle.weave.proofs.Parts.{each_alike}
 use Rattle.weave.proofs.each.weave_halves.Goals as goal
 
 -- the originals of the passes are those of the sequences
-alike : (is : List Ins) (at : ℕ) → each_parts role.Original (λ i a. guards (used i) ++ bare i a) is at ≡ each_parts role.Original original is at
-alike = each_alike role.Original (λ i a. guards (used i) ++ bare i a) original guarded_original
+alike : (is : List Ins) (at : ℕ) → each_parts role.Original (λ i a. guards (used i) ++ unguarded i a) is at ≡ each_parts role.Original original is at
+alike = each_alike role.Original (λ i a. guards (used i) ++ unguarded i a) original guarded_original
 
 pub weave_each-requires-clause-come : goal.weave_each-requires-clause-come
 weave_each-requires-clause-come g c =

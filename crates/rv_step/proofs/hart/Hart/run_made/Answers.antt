@@ -1,6 +1,6 @@
 use Rattle.std.proofs.Common.{sym, ap, ◌∙◌, arith}
 use Rattle.rv_step.specs.Harts.{HartState, with_memory}
-use Rattle.rv_step.specs.Known.{goes_on}
+use Rattle.rv_step.specs.Known.{does_step}
 use Rattle.rv_step.proofs.Running.{all_made, made_counted}
 use Rattle.rv_step.proofs.hart.Hart.run_made.Goals as goal
 use Rattle.mem_image.proofs.WholeLaws.{any_err}
@@ -25,5 +25,5 @@ returns-clause-made c =
       within = made.ensures.within;
       all = all_made (with_memory c.args.self.now c.args.image.now) (with_memory made.new.self made.new.image) made.result.0 c.args.n made.ensures.made made.ensures.within (rw c.in_ok-done.was at made.ensures.stopped);
       going = made.ensures.made.going;
-      stopped = λ less. ap (λ q. goes_on q.state.outcome) (sym (returns-clause-run c)) ∙ ap (λ (h : HartState). goes_on h.outcome) c.self.view_is ∙ (rw c.in_ok-done.was at made.ensures.stopped) less;
+      stopped = λ less. ap (λ q. does_step q.state.outcome) (sym (returns-clause-run c)) ∙ ap (λ (h : HartState). does_step h.outcome) c.self.view_is ∙ (rw c.in_ok-done.was at made.ensures.stopped) less;
     }

@@ -1,4 +1,4 @@
-use Rattle.mem_image.specs.Fixed.{IsFixed}
+use Rattle.mem_image.specs.Fixed.{IsFixedCode}
 use Rattle.rv_step.specs.Harts.{with_memory}
 use Rattle.rv_step.proofs.hart.Hart.window.Goals as goal
 
@@ -10,5 +10,5 @@ returns-in_default c = c.none-in_default.ensures (with_memory c.args.self.now c.
 
 pub returns : goal.returns
 returns c =
-    let fixed : IsFixed c.args.image.now c.in-Ok-Some.code = rw c.in-Ok-Some.field-0-is at c.in-Ok-Some.ensures.fixed in
+    let fixed : IsFixedCode c.args.image.now c.in-Ok-Some.code = rw c.in-Ok-Some.field-0-is at c.in-Ok-Some.ensures.fixed in
     c.of.ensures.window (with_memory c.args.self.now c.args.image.now).state c.requires fixed c.near-first.ensures

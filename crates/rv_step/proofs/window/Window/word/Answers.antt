@@ -1,11 +1,11 @@
 use Rattle.std.proofs.Common.{ℕ, sym, ◌+◌, ◌-◌, ◌%◌, ◌^◌, ◌<◌, arith}
-use Rattle.rv_step.specs.Windows.{IsIn, HasWords}
+use Rattle.rv_step.specs.Windows.{IsIn, WindowHasWords}
 use Rattle.rv_step.specs.declared.window.Window.{Window}
 use Rattle.rv_step.proofs.WindowLaws.{window_word, window_fixed}
 use Rattle.rv_step.proofs.window.Window.word.Goals as goal
 
 -- an address that is less than the count behind the first, modulo 2^64
-is_in : (w : Window) (a : ℕ) → HasWords w → a < 2 ^ 64 → (a + (2 ^ 64 - w.first)) % 2 ^ 64 < w.count → IsIn w a
+is_in : (w : Window) (a : ℕ) → WindowHasWords w → a < 2 ^ 64 → (a + (2 ^ 64 - w.first)) % 2 ^ 64 < w.count → IsIn w a
 is_in w a h small behind =
     let ends = h.ends in
     record { low = omega (arith, ends, small, behind); high = omega (arith, ends, small, behind) }
