@@ -17,7 +17,7 @@ use Rattle.qed_model.specs.Weave.Sequences.{Form, Block, stub}
 use Rattle.qed_model.specs.Weave.Bounds.{cost_of}
 use Rattle.qed_model.specs.Weave.Forms.{mirror_of, form_of, shape_of}
 use Rattle.qed_model.specs.Weave.LeanBounds.{lean_bounds_of}
-use Rattle.qed_model.specs.Weave.LeanCode.{Lean, lean_in, lean_of, lean_items, test_items_with as file_items, start_at, worded}
+use Rattle.qed_model.specs.Weave.LeanCode.{Lean, lean_in, lean_of, lean_items, items_with as file_items, start_at, worded}
 use Rattle.qed_model.specs.Weave.LeanParts.{worded_parts, file_parts}
 use Rattle.qed_model.specs.Weave.Parts.{code_parts}
 use Rattle.qed_model.specs.Weave.Woven.{lean}

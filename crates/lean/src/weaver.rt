@@ -98,7 +98,7 @@ impl<'a> Weaving for LeanWeaver<'a> {
 
     ghost parts = { λ w. lean_parts_of w };
 
-    ghost lean_kind = { λ w. lean_kind w };
+    ghost kind = { λ w. lean_kind w };
 
     ghost is_for = { λ w b. IsOwn w b };
 

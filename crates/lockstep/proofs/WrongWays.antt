@@ -70,9 +70,9 @@ module _ (f g : Program) (w : World) (before per : ℕ) (code : CalmCode f g w b
 
   -- it fires there
   pub wrong_way : Fires 2 (misled i u)
+  unfolding jumped
   wrong_way = by (holds i.kind (reg u i.rs1) (reg u i.rs2)) refl where
     there : (t : Bool) → other_way t i u ≡ moved u.regs (way_of i u.pc (not t)) u
-    unfolding jumped
     there true = refl
     there false = rw (eq-eqb _ _ (fetched_aligned u.memory u.ranges (target i u.pc) (ways true).ins (loaded.code (target i u.pc) ∙ (ways true).known))) refl
 

@@ -22,7 +22,7 @@ file_of code table words symbols x y z = record {
   entry = 0x10000;
   flags = 0;
   segments = segment 5 0x10000 code ∷ segment 4 0x80000 table ∷ segment 6 0x90000 words ∷ [];
-  generated_sections =
+  sections =
       null_section
       ∷ (map section_read (generated_sections (segment 5 0x10000 code) (segment 4 0x80000 table) (segment 6 0x90000 words))
       ++ (table_read symtab_name SHT_SYMTAB x ∷ table_read strtab_name SHT_STRTAB y ∷ table_read shstrtab_name SHT_STRTAB z ∷ []));

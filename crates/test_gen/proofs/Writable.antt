@@ -92,7 +92,7 @@ writable seed n h =
       ascend = pairs_all (λ s t. s.address ≤ t.address) (code ∷ table ∷ words ∷ []) ((omega arith, (omega arith, tt)), ((omega arith, tt), (tt, tt)));
       apart = pairs_all (λ s t. do_share s t ≡ false) (code ∷ table ∷ words ∷ []) ((not_shared code table (omega arith), (not_shared code words (omega arith), tt)), ((not_shared table words (omega arith), tt), (tt, tt)));
       few_segments = omega arith;
-      generated_sections = every_all (IsPlaced (code ∷ table ∷ words ∷ [])) (generated_sections code table words) (
+      sections = every_all (IsPlaced (code ∷ table ∷ words ∷ [])) (generated_sections code table words) (
         placed (codes ".text") 6 code refl (code ∷ table ∷ words ∷ []) (inl refl) (inside_itself (codes ".text") 6 5 0x10000 (code_bytes seed n)),
         (
           placed (codes ".rodata") 2 table refl (code ∷ table ∷ words ∷ []) (inr (inl refl)) (inside_itself (codes ".rodata") 2 4 0x80000 (generated_table_bytes n)),

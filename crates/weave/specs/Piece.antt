@@ -7,7 +7,7 @@ use Rattle.qed_model.specs.Weave.Costs.{spent}
 use Rattle.weave_core.specs.World.{Item, IsCursor, Ins, reg}
 use Rattle.weave_core.specs.Blocks.{AllFit}
 use Rattle.weave_core.specs.Parts.{NeedsMirror, NeedsChecks, GivesChecks, LeavesChecks, NeedsPiece, GivesPiece, LeavesPiece, piece_cost, Pieced}
-use Rattle.weave_core.specs.Parts.{PassesFor as ForParts, passes_items as parts_items}
+use Rattle.weave_core.specs.Parts.{ForPiece as ForParts, piece_items as parts_items}
 pub use Rattle.weave_core.specs.Parts.{any, PieceLeads}
 use Rattle.weave_core.proofs.Lemmas.{for_originals, for_mirrors, both_checks, piece_leads, cost_parts, parts_are, spent_le}
 use Rattle.mirror_forms.specs.Laws.{mirror_cost}

@@ -12,7 +12,7 @@ use Rattle.qed_model.specs.Weave.LeanCode.{end_at, is_alike, start_at, Lean}
 use Rattle.machine.proofs.Lemmas.{all_among}
 use Rattle.qed_model.proofs.Lemmas.{pieces_whole}
 use Rattle.weave_core.specs.World.{World}
-use Rattle.weave_core.specs.WeaveForms.{lean_weave_of as form_weave}
+use Rattle.weave_core.specs.WeaveForms.{weave_of as form_weave}
 use Rattle.weave_core.specs.WeaveLaws.{PiecesAt, stops}
 use Rattle.weave_core.specs.WeavePromise.{AllBlocksOf}
 use Rattle.weave_core.proofs.Lemmas.{Ascend, body_size}
