@@ -17,10 +17,10 @@ TOOLS = ("riscv64-unknown-elf-addr2line", "riscv64-linux-gnu-addr2line", "llvm-a
 NO_TOOL = "no addr2line, so no file and line: install riscv64-unknown-elf-addr2line or llvm-addr2line"
 LAST_NAME = chr(0x10FFFF)
 LINE = re.compile(r"(.+) # (0x[0-9a-f]{16}) (.+)")
-ROLE = re.compile(r"(leave guard|look-up|[a-z]+)(?: x(\d+))?(?: (0x[0-9a-f]+)(?:\.\.(0x[0-9a-f]+))?| end| check)?")
+ROLE = re.compile(r"(leave guard|look-up|[a-z]+)(?: x(\d+))?(?: (0x[0-9a-f]+)(?:\.\.(0x[0-9a-f]+))?| (end|check))?")
 
-# A word of the new code: its text, and of its role the name, the register, and the input addresses.
-Word = namedtuple("Word", "text role register addresses")
+# A word of the new code: its text, and of its role the name, the register, and the input addresses or else the place.
+Word = namedtuple("Word", "text role register addresses place")
 
 
 class Stop(Exception):
@@ -65,7 +65,7 @@ def words_of(program, test, options):
         if not role:
             raise Stop(f"{program} explain: no line of a word: {line!r}")
         addresses = tuple(int(address, 16) for address in role.group(3, 4) if address)
-        words[int(found[2], 16)] = Word(found[1], role[1], role[2] and int(role[2]), addresses)
+        words[int(found[2], 16)] = Word(found[1], role[1], role[2] and int(role[2]), addresses, role[5])
     return words
 
 
@@ -125,12 +125,16 @@ class Names:
         """The name of the function of an address, or nothing."""
         return self.nearest(self.functions, address)[0]
 
-    def data(self, address):
-        """NAME or NAME+0xN of a data word: the object that has it, or else the nearest symbol before it in its segment."""
+    def object(self, address):
+        """The object that has a data word, or else the nearest symbol before it in its segment, and how far before it that stands."""
         start = next((start for start, end in self.segments if start <= address < end), address)
         objects = [part for part in self.objects if start <= part[0] <= address]
         holders = [(value, name) for value, size, name in objects if address < value + size]
-        name, behind = self.nearest(holders or [(value, name) for value, _, name in objects], address)
+        return self.nearest(holders or [(value, name) for value, _, name in objects], address)
+
+    def data(self, address):
+        """NAME or NAME+0xN of a data word, or nothing."""
+        name, behind = self.object(address)
         return f"{name}+0x{behind:x}" if behind else name
 
 
