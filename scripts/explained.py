@@ -6,6 +6,7 @@ import re
 import shutil
 import subprocess
 import sys
+from array import array
 from collections import namedtuple
 
 from strikes import FUNCTION, NoOutput, read_output
@@ -45,7 +46,7 @@ def options_of(given):
 
 
 def said(program, *words):
-    """What a call of the program prints."""
+    """What a call of the program prints, as bytes."""
     try:
         done = subprocess.run([program, *words], stdout=subprocess.PIPE, stderr=subprocess.PIPE, check=False)
     except OSError as error:
@@ -53,20 +54,40 @@ def said(program, *words):
     if done.returncode:
         lines = (done.stdout or done.stderr).decode(errors="replace").splitlines() or [f"exit code {done.returncode}"]
         raise Stop(f"{program} {words[0]}: {lines[0]}")
-    return done.stdout.decode(errors="replace")
+    return done.stdout
 
 
-def words_of(program, test, options):
-    """Each word of the new code by its address, as `qed explain` has it."""
-    words = {}
-    for line in said(program, "explain", test, *options).splitlines():
-        found = LINE.fullmatch(line)
-        role = found and ROLE.fullmatch(found[3])
-        if not role:
-            raise Stop(f"{program} explain: no line of a word: {line!r}")
-        addresses = tuple(int(address, 16) for address in role.group(3, 4) if address)
-        words[int(found[2], 16)] = Word(found[1], role[1], role[2] and int(role[2]), addresses, role[5])
-    return words
+def lines_of(text):
+    """The lines of a text that is bytes."""
+    return text.decode(errors="replace").splitlines()
+
+
+class Words:
+    """The words of the new code by address, as `qed explain` prints them. There may be millions, so a line is read when it is needed."""
+
+    def __init__(self, program, test, options):
+        self.text, self.known = said(program, "explain", test, *options), {}
+        self.starts = array("Q", [0])
+        self.starts.extend(found.end() for found in re.finditer(b"\n", self.text))
+        first = re.match(rb".+? # (0x[0-9a-f]{16}) ", self.text)
+        if not first:
+            raise Stop(f"{program} explain: no line of a word")
+        self.first, self.last = int(first[1], 16), int(first[1], 16) + 4 * (len(self.starts) - 2)
+
+    def __contains__(self, address):
+        return address % 4 == 0 and self.first <= address <= self.last
+
+    def __getitem__(self, address):
+        if address not in self.known:
+            at = (address - self.first) // 4
+            line = self.text[self.starts[at]:self.starts[at + 1]].decode(errors="replace").rstrip()
+            found = LINE.fullmatch(line)
+            role = found and int(found[2], 16) == address and ROLE.fullmatch(found[3])
+            if not role:
+                raise Stop(f"no line of `qed explain`: {line!r}")
+            addresses = tuple(int(part, 16) for part in role.group(3, 4) if part)
+            self.known[address] = Word(found[1], role[1], role[2] and int(role[2]), addresses, role[5])
+        return self.known[address]
 
 
 def reference():

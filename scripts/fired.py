@@ -23,7 +23,7 @@ import tempfile
 from collections import defaultdict, namedtuple
 
 sys.dont_write_bytecode = True  # nothing is left in the folder of a package
-from explained import Lines, Names, Stop, add_options, options_of, read_out, read_test, reference, said, words_of
+from explained import Lines, Names, Stop, Words, add_options, lines_of, options_of, read_out, read_test, reference, said
 
 HEAD = re.compile(r"(?:^|\s)(ended|fired|going|no code there|trapped(?: fetch| (?:word|load|store|target) 0x[0-9a-f]+)?)"
                   r"(?: after \d+ steps)? at (0x[0-9a-fA-F]{1,16})\s*$")
@@ -114,8 +114,7 @@ class Output:
         self.compare(given.out)
         self.test_file = read_test(given.test)
         self.names, self.lines = Names(self.test_file), Lines(given.test, self.test_file)
-        self.words = words_of(given.program, given.test, self.options)
-        self.order = sorted(self.words)
+        self.words = Words(given.program, given.test, self.options)
         self.new = {old: new for new, old in self.entries}
         self.read_blocks()
         self.read_count()
@@ -147,7 +146,7 @@ class Output:
         except Stopped as stopped:
             raise Stop(f"{self.test_name}: {stopped.text.strip()}") from None
         self.code = {int(line.split("# ")[1][:18], 16): isa.decode(int(line[-10:], 16))
-                     for line in said(self.program, "list", self.test_name).splitlines()}
+                     for line in lines_of(said(self.program, "list", self.test_name))}
         self.blocks = {block.start: block for block in blocks(test, options)}
         self.leading = defaultdict(list)
         for block in self.blocks.values():
@@ -167,8 +166,8 @@ class Output:
 
     def read_count(self):
         """Of the lean form the count in x15 behind the check, and from there to that with which the test begins."""
-        check = [word for word in self.words.values() if word.role == "check" and word.text.startswith("addi x15")]
-        self.count_of_check = immediate(check[-1]) if check else 0
+        check = [self.words[at] for at in range(self.words.first, self.entries[0][0], 4)] if self.is_lean else []
+        self.count_of_check = next((immediate(word) for word in reversed(check) if word.role == "check" and word.text.startswith("addi x15")), 0)
         self.first_count = MOST_COUNT - self.count_of_check
 
     def tick(self, block):
@@ -184,7 +183,7 @@ class Output:
     def addresses(self, block):
         """The addresses of the new code at which a block stands."""
         at = bisect.bisect_right(self.entries, (self.new[block], WORD))
-        after = self.entries[at][0] if at < len(self.entries) else self.order[-1]
+        after = self.entries[at][0] if at < len(self.entries) else self.words.last
         return range(self.new[block], after, 4)
 
     def decoded(self, address):
@@ -391,7 +390,7 @@ class Fired:
 
     def lines(self, most):
         """What is printed."""
-        yield from said(self.output.program, "explain", self.output.test_name, *self.output.options, "--at", hexed(self.pc)).splitlines()
+        yield from lines_of(said(self.output.program, "explain", self.output.test_name, *self.output.options, "--at", hexed(self.pc)))
         yield f"block {self.output.told(self.block)}" if self.block is not None else "block unknown: x16 names none"
         yield from self.values()
         if self.word.role in DATA_ROLES:
@@ -401,7 +400,7 @@ class Fired:
     def values(self):
         """The two values that the check compared, and their differing bits."""
         i = self.output.decoded(self.pc - 4)
-        registers = [i.rs1, i.rs2]
+        registers = [i.rs1, i.rs2] if i.group == "branch" else []
         if self.word.role == "leave" and i.rs1 > PAIR_DISTANCE and i.rs1 != TEMPORARY:  # the pairs of a branch
             yield from self.two(i.rs1 - PAIR_DISTANCE, i.rs1)
             registers = [i.rs2 - PAIR_DISTANCE, i.rs2] if i.rs2 else []
@@ -513,8 +512,7 @@ def explain(output, dump, given):
     if dump.lacks:
         print(f"fired.py: {place}: the dump lacks {dump.lacks}", file=sys.stderr)
         return None
-    word = output.words.get(dump["pc"])
-    if not word or word.text != "ebreak":
+    if dump["pc"] not in output.words or output.words[dump["pc"]].text != "ebreak":
         print(f"{place}: no check stands at the pc {hexed(dump['pc'])}")
         return False
     print(f"{place}: a check fired at {hexed(dump['pc'])}")

@@ -21,7 +21,7 @@ import tempfile
 from collections import Counter, namedtuple
 
 sys.dont_write_bytecode = True  # nothing is left in the folder of a package
-from explained import Lines, Names, Stop, add_options, options_of, read_test, said, words_of
+from explained import Lines, Names, Stop, Words, add_options, lines_of, options_of, read_test, said
 from strikes import COLOURS, VERDICTS, add_seeds, add_texts, blocks_of, gathered, last_step, map_svg, rows_of_map, svg, text
 
 MEANINGS = {"fired": "a check fired", "ended": "the test ended first", "ended right": "the test ended first, with the right values",
@@ -177,10 +177,10 @@ class Struck:
         options = options_of(given)
         file = read_test(given.test)
         self.names, self.lines = Names(file), Lines(given.test, file)
-        self.words = words_of(given.program, given.test, options)
+        self.words = Words(given.program, given.test, options)
         with tempfile.TemporaryDirectory() as folder:
             out = os.path.join(folder, "out.elf")
-            found = BOUNDS.search(said(given.program, "transform", given.test, out, *options))
+            found = BOUNDS.search("".join(lines_of(said(given.program, "transform", given.test, out, *options))))
             if not found or (found[1], found[2]) != tuple(str(bound).lower() for bound in bounds):
                 raise Stop(f"the campaign was not of {given.test} with these options: its bounds are {bounds[0]} and "
                            f"{str(bounds[1]).lower()}, these make {' and '.join(found.groups()) if found else 'none'}")
