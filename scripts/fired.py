@@ -33,9 +33,12 @@ NUMBERS = {**{name: number for number, name in enumerate(ABI)}, **{f"x{number}":
 ORIGINALS, PAIR_DISTANCE = range(1, 14), 16
 LINK, CURSOR, SIGNATURE, TEMPORARY, SPARE = 1, 15, 16, 30, 31
 WORD = (1 << 64) - 1
-LOW_COUNT, MOST_COUNT = 0xFFF, 2047
+LOW_COUNT, MOST_COUNT, LONGEST_ENTRY = 0xFFF, 2047, 12
+RETURNS, JUMPS = -1, -2  # stand for the blocks that end in a JALR, by x1 and not
 MOST_STATES = 500_000
 DATA_ROLES = ("visit", "sweep")
+
+TICK = "tick"
 
 # What an instruction of the test does to the registers, where it stands in the new code, and the value if that is known.
 Write = namedtuple("Write", "address register sources value")
@@ -110,9 +113,8 @@ class Output:
 
     def __init__(self, given):
         self.program, self.options, self.test_name = given.program, options_of(given), given.test
-        self.file, self.entries = read_out(given.out)
-        self.compare(given.out)
-        self.test_file = read_test(given.test)
+        self.file, self.test_file = read_test(given.out), read_test(given.test)
+        self.entries = self.compare(given.out)
         self.names, self.lines = Names(self.test_file), Lines(given.test, self.test_file)
         self.words = Words(given.program, given.test, self.options)
         self.new = {old: new for new, old in self.entries}
@@ -121,15 +123,16 @@ class Output:
         self.events = {}
 
     def compare(self, name):
-        """Stops if OUT does not load what the options make of IN."""
+        """Stops if OUT does not load what the options make of IN. Returns the pairs of a new and an input address, ascending."""
         with tempfile.TemporaryDirectory() as folder:
             made = os.path.join(folder, "made.elf")
             said(self.program, "transform", self.test_name, made, *self.options)
-            other = read_out(made)[0]
+            other, entries = read_out(made)
         address = first_difference(self.file, other)
         if address is not None:
             raise Stop(f"{name} is not what these options make of {self.test_name}: at {hexed(address)} stands "
                        f"{word_at(self.file, address)} and not {word_at(other, address)}")
+        return entries
 
     def read_blocks(self):
         """The instructions, the blocks, and from where each block is reached, by the pages of reference/."""
@@ -152,17 +155,17 @@ class Output:
         for block in self.blocks.values():
             for to in goes_on(block):
                 self.leading[to].append(block.start)
-        jumps = [block for block in self.blocks.values() if block.end and block.end.name == "jalr"]
-        self.returns = [block.start for block in jumps if is_return(block.end)]
-        self.jumps = [block.start for block in jumps if not is_return(block.end)]
+        for block in self.blocks.values():
+            if block.end and block.end.name == "jalr":
+                self.leading[RETURNS if is_return(block.end) else JUMPS].append(block.start)
         self.reached = reached(test) if options.entries == "reached" else self.blocks.keys()
         self.is_lean = options.lean is not None
 
     def before(self, block):
-        """The blocks that may lead to a block."""
+        """The blocks that may lead to a block. All returns count as one that leads behind calls, and all other JALR as one."""
         call = self.code.get(block - 4)
-        returns = self.returns if call and call.name in ("jal", "jalr") and call.rd == LINK else self.jumps
-        return self.leading[block] + (returns if block in self.reached else [])
+        returns = RETURNS if call and call.name in ("jal", "jalr") and call.rd == LINK else JUMPS
+        return self.leading[block] + ([returns] if block in self.reached else [])
 
     def read_count(self):
         """Of the lean form the count in x15 behind the check, and from there to that with which the test begins."""
@@ -172,8 +175,12 @@ class Output:
 
     def tick(self, block):
         """The steps that the tick of a block counts, 0 if it has none."""
-        return next((immediate(self.words[at]) for at in self.addresses(block)
+        return next((immediate(self.words[at]) for at in self.addresses(block)[:LONGEST_ENTRY]
                      if self.words[at].role == "tick" and self.words[at].text.startswith("addi x15")), 0)
+
+    def is_before_tick(self, block, pc):
+        """Whether a word stands before the tick of its block."""
+        return any(self.words[at].role == "tick" for at in self.addresses(block)[:LONGEST_ENTRY] if at > pc)
 
     def block_at(self, pc):
         """The block whose entry has an address of the new code, or None."""
@@ -182,6 +189,8 @@ class Output:
 
     def addresses(self, block):
         """The addresses of the new code at which a block stands."""
+        if block in (RETURNS, JUMPS):
+            return range(0)
         at = bisect.bisect_right(self.entries, (self.new[block], WORD))
         after = self.entries[at][0] if at < len(self.entries) else self.words.last
         return range(self.new[block], after, 4)
@@ -287,11 +296,13 @@ class Search:
     """Goes from a fired check backwards along all ways that the test may have come since the last check."""
 
     def __init__(self, output, dump, start, end, counted):
-        """From the word `end` of the block `start`, or, if that is None, from the tick of that block; of the lean form with the steps
-        that were counted since the last check, or None."""
+        """From the word `end` of the block `start`, or from its TICK; of the lean form with the steps that were counted since the last
+        check, that tick among them, or else None."""
         self.output, self.dump, self.start, self.end, self.counted = output, dump, start, end, counted
         self.ticks = {}
         self.possible = self.possible_states() if counted is not None else None
+        if self.possible is None:
+            self.counted = None
 
     def tick(self, block):
         """The steps that the tick of a block counts."""
@@ -362,7 +373,7 @@ class Search:
             if (block, end, count, suspects, modified) in seen:
                 continue
             seen.add((block, end, count, suspects, modified))
-            events = [] if end == "tick" else self.output.events_of(block, end)
+            events = [] if end == TICK else self.output.events_of(block, end)
             came = self.back(events, suspects, modified, found, distance)
             if not came or not came[0]:
                 continue
@@ -473,7 +484,11 @@ class Fired:
         if not self.output.is_lean:
             return Search(self.output, self.dump, self.block, self.pc, None)
         counted = (self.dump[CURSOR] & LOW_COUNT) - self.output.count_of_check
-        return Search(self.output, self.dump, self.block, "tick" if self.in_check else self.pc, counted)
+        if self.in_check:
+            return Search(self.output, self.dump, self.block, TICK, counted)
+        if self.output.is_before_tick(self.block, self.pc):
+            return Search(self.output, self.dump, self.block, TICK, counted + self.output.tick(self.block))
+        return Search(self.output, self.dump, self.block, self.pc, counted)
 
     def went_astray(self):
         """The branch that may have gone the wrong way, if no register differs."""
