@@ -35,7 +35,7 @@ LINK, CURSOR, SIGNATURE, TEMPORARY, SPARE = 1, 15, 16, 30, 31
 WORD = (1 << 64) - 1
 LOW_COUNT, MOST_COUNT, LONGEST_ENTRY = 0xFFF, 2047, 12
 RETURNS, JUMPS = -1, -2  # stand for the blocks that end in a JALR, by x1 and not
-MOST_STATES = 500_000
+MOST_STATES = 20_000
 DATA_ROLES = ("visit", "sweep")
 
 TICK = "tick"
@@ -365,26 +365,40 @@ class Search:
         return suspects, modified, distance
 
     def candidates(self, register):
-        """The instructions that may have made a register differ, each with how many instructions ago at least; and whether these are all."""
-        found, seen, number = {}, set(), itertools.count()
-        todo = [(0, next(number), self.start, self.end, self.counted, frozenset({register}), frozenset())]
-        while todo and len(seen) < MOST_STATES:
-            distance, _, block, end, count, suspects, modified = heapq.heappop(todo)
-            if (block, end, count, suspects, modified) in seen:
+        """The instructions that may have made a register differ, each with how many instructions ago at least. If there are too many
+        ways to follow each, those that meet at a block go on as one."""
+        found = self.walk(register, MOST_STATES)
+        return self.walk(register, None) if found is None else found
+
+    def walk(self, register, most):
+        """As above, with each way for itself, or None if that makes more than so many states; or with ways that go on as one."""
+        found, seen, joined, number = {}, set(), {}, itertools.count()
+        todo = [(0, next(number), (self.start, self.end, self.counted), frozenset({register}), frozenset())]
+        while todo:
+            distance, _, place, suspects, modified = heapq.heappop(todo)
+            if most is None:
+                suspects, modified = (one | other for one, other in zip(joined.get(place, (frozenset(),) * 2), (suspects, modified)))
+                joined[place] = suspects, modified
+            if (place, suspects, modified) in seen:
                 continue
-            seen.add((block, end, count, suspects, modified))
-            events = [] if end == TICK else self.output.events_of(block, end)
-            came = self.back(events, suspects, modified, found, distance)
-            if not came or not came[0]:
-                continue
-            suspects, modified, distance = came
-            left = None if count is None else self.behind(block, count)
-            if count is not None and left is None:
-                continue
-            for before in self.output.before(block):
-                if self.possible is None or (before, left) in self.possible:
-                    heapq.heappush(todo, (distance, next(number), before, None, left, suspects, modified))
-        return found, not todo
+            seen.add((place, suspects, modified))
+            if most is not None and len(seen) > most:
+                return None
+            for step in self.steps_back(place, suspects, modified, found, distance):
+                heapq.heappush(todo, (step[0], next(number), *step[1:]))
+        return found
+
+    def steps_back(self, place, suspects, modified, found, distance):
+        """Where a way goes on backwards from a place."""
+        block, end, count = place
+        came = self.back([] if end == TICK else self.output.events_of(block, end), suspects, modified, found, distance)
+        left = None if count is None else self.behind(block, count)
+        if not came or not came[0] or count is not None and left is None:
+            return
+        suspects, modified, distance = came
+        for before in self.output.before(block):
+            if self.possible is None or (before, left) in self.possible:
+                yield distance, (before, None, left), suspects, modified
 
 
 class Fired:
@@ -454,8 +468,7 @@ class Fired:
     def listed(self, roots, most):
         """The instructions that may have made all these registers differ; if none may, those that may have made one differ."""
         search = self.search()
-        parts = [search.candidates(register) for register in roots]
-        found = [part for part, _ in parts]
+        found = [search.candidates(register) for register in roots]
         common = set.intersection(*map(set, found))
         if not common and len(roots) > 1:
             common = set.union(*map(set, found))
@@ -463,8 +476,6 @@ class Fired:
                 yield "no instruction explains all of these, so each below explains some"
         if self.output.is_lean and search.possible is None:
             yield "the count in x15 fits no way from a check to here, so all ways are followed"
-        if not all(is_all for _, is_all in parts):
-            yield "there are too many ways: the list may lack instructions"
         if not common:
             yield f"no instruction has written {' or '.join(f'x{r}' for r in roots)} since the last check: a register changed"
             return
