@@ -257,10 +257,12 @@ def main():
     """Reads the texts, and stores the page."""
     given = words()
     found, bounds, wrong = gathered(given.files)
+    if not found:
+        raise Stop(f"{wrong[0][0]}: {wrong[0][1]}" + (f", and {len(wrong) - 1} more texts" if len(wrong) > 1 else ""))
+    if not any(strikes for _, strikes in found):
+        raise Stop("the texts have no strike")
     for name, error in wrong:
         print(f"report.py: not counted: {name}: {error}", file=sys.stderr)
-    if not found or not any(strikes for _, strikes in found):
-        raise Stop("no strikes to report")
     made = page(given, found, bounds, wrong)
     try:
         with open(given.page, "w", encoding="utf-8", errors="replace") as file:

@@ -28,6 +28,7 @@ LINE = re.compile(r"(\d+) ((?:step \d+ \S+ )+)(fired|ended|same|closed|not reach
 LAST = re.compile(r"strikes (\d+), fired \d+, ended \d+( \(\d+ right, \d+ wrong\))?, same \d+, closed \d+, not reached \d+, longest \d+, "
                   r"register bound (\d+), word bound (\d+|none)")
 BARS, WIDTH = 24, 50
+MOST_STEPS = 1_000_000
 FUNCTION = 2
 
 
@@ -44,10 +45,10 @@ class Strike:
 
     def __init__(self, line):
         found = LINE.fullmatch(line)
-        if not found:
+        self.changes = [(int(step), place, value) for step, place, value in CHANGE.findall(found[2])] if found else []
+        if not self.changes or len(self.changes) != found[2].count("step "):
             raise NotWhole(f"no strike: {line!r}")
         self.number, self.verdict = int(found[1]), found[3]
-        self.changes = [(int(step), place, value) for step, place, value in CHANGE.findall(found[2])]
         self.latency = int(found[4]) if found[4] else None
         self.result = found[5] or ""
 
@@ -219,8 +220,8 @@ def blocks_of(name, most):
 
 
 def last_step(strikes):
-    """The greatest step of a last change."""
-    return max((strike.changes[-1][0] for strike in strikes), default=0)
+    """The greatest step of a last change, of those that a campaign makes."""
+    return min(max((strike.changes[-1][0] for strike in strikes), default=0), MOST_STEPS)
 
 
 def rows_of_map(strikes, ran=None):
