@@ -36,7 +36,7 @@ WORD = (1 << 64) - 1
 LOW_COUNT, MOST_COUNT, LONGEST_ENTRY = 0xFFF, 2047, 12
 RETURNS, JUMPS = -1, -2  # stand for the blocks that end in a JALR, by x1 and not
 MOST_STATES = 20_000
-DATA_ROLES = ("visit", "sweep")
+DATA_ROLES, SIGNATURE_ROLES = ("visit", "sweep"), ("entry", "signature", "check")
 
 TICK = "tick"
 
@@ -426,9 +426,11 @@ class Fired:
         """The two values that the check compared, and their differing bits."""
         i = self.output.decoded(self.pc - 4)
         registers = [i.rs1, i.rs2] if i.group == "branch" else []
-        if self.word.role == "leave" and i.rs1 > PAIR_DISTANCE and i.rs1 != TEMPORARY:  # the pairs of a branch
-            yield from self.two(i.rs1 - PAIR_DISTANCE, i.rs1)
-            registers = [i.rs2 - PAIR_DISTANCE, i.rs2] if i.rs2 else []
+        pairs = [register for register in dict.fromkeys(registers) if register]
+        if self.word.role == "leave" and all(register - PAIR_DISTANCE in ORIGINALS for register in pairs):  # those of a branch
+            for register in pairs:
+                yield from self.two(register - PAIR_DISTANCE, register)
+            registers = []
         elif self.word.register in ORIGINALS and SPARE in registers:  # the base of a store, and of its mirror part
             yield from self.two(self.word.register, self.word.register + PAIR_DISTANCE)
         if registers:
@@ -460,9 +462,10 @@ class Fired:
             yield f"also {'differs' if len(others) == 1 else 'differ'}: {', '.join(f'x{r} and x{r + PAIR_DISTANCE}' for r in others)}"
         if self.word.role in DATA_ROLES:
             yield "a store made the difference since the word was last compared, or the word changed"
-        elif not roots:
+            return
+        if not roots or self.word.role in SIGNATURE_ROLES:
             yield from self.went_astray()
-        elif self.block is not None:
+        if roots and self.block is not None:
             yield from self.listed(roots, most)
 
     def listed(self, roots, most):
@@ -505,10 +508,10 @@ class Fired:
         """The branch that may have gone the wrong way, if no register differs."""
         output, role = self.output, self.word.role
         if role == "leave":
-            by_register = output.decoded(self.pc - 4).rs1 == SIGNATURE
-            yield f"no register differs, so {'x16 or this jump' if by_register else 'this branch'} went wrong:"
+            at_fault = {SIGNATURE: "x16 or this jump", TEMPORARY: "a look-up of this jump"}.get(output.decoded(self.pc - 4).rs1, "this branch")
+            yield f"no register differs, so {at_fault} went wrong:"
             yield output.told(self.word.addresses[0])
-        elif role in ("entry", "signature", "check"):
+        elif role in SIGNATURE_ROLES:
             here, meant = self.block, self.dump[SIGNATURE]
             yield f"x16 names the block {output.told(meant)}" if meant in output.new else "x16 names no block: it changed, or a jump went astray"
             wrong = [at for at, i in output.code.items() if i.group == "branch" and {at + 4, at + i.imm & WORD} == {here, meant}]
@@ -526,7 +529,10 @@ def words():
     parser.add_argument("--out", metavar="OUT", required=True, help="its output, which was run")
     parser.add_argument("--most", metavar="N", type=int, default=20, help="list at most so many instructions (default: 20)")
     add_options(parser)
-    return parser.parse_args()
+    given = parser.parse_args()
+    if given.most < 1:
+        parser.error("--most is at least 1")
+    return given
 
 
 def explain(output, dump, given):
