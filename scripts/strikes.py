@@ -28,6 +28,7 @@ LINE = re.compile(r"(\d+) ((?:step \d+ \S+ )+)(fired|ended|same|closed|not reach
 LAST = re.compile(r"strikes (\d+), fired \d+, ended \d+( \(\d+ right, \d+ wrong\))?, same \d+, closed \d+, not reached \d+, longest \d+, "
                   r"register bound (\d+), word bound (\d+|none)")
 BARS, WIDTH = 24, 50
+MOST_STEPS = 1_000_000
 FUNCTION = 2
 
 
@@ -44,10 +45,10 @@ class Strike:
 
     def __init__(self, line):
         found = LINE.fullmatch(line)
-        if not found:
+        self.changes = [(int(step), place, value) for step, place, value in CHANGE.findall(found[2])] if found else []
+        if not self.changes or len(self.changes) != found[2].count("step "):
             raise NotWhole(f"no strike: {line!r}")
         self.number, self.verdict = int(found[1]), found[3]
-        self.changes = [(int(step), place, value) for step, place, value in CHANGE.findall(found[2])]
         self.latency = int(found[4]) if found[4] else None
         self.result = found[5] or ""
 
@@ -218,14 +219,19 @@ def blocks_of(name, most):
     return places, block
 
 
-def rows_of_map(strikes, out):
-    """The rows of the map: a title, and how often each verdict came, as pictures show it. A strike counts at its last change."""
+def last_step(strikes):
+    """The greatest step of a last change, of those that a campaign makes."""
+    return min(max((strike.changes[-1][0] for strike in strikes), default=0), MOST_STEPS)
+
+
+def rows_of_map(strikes, ran=None):
+    """The rows of the map: a title, and how often each verdict came, as pictures show it. A strike counts at its last change, at
+    its place or, with what `blocks_of` returns, at the block that was running."""
     rows = {}
-    if out:
-        places, block = blocks_of(out, max((strike.changes[-1][0] for strike in strikes), default=0))
     for strike in strikes:
         step, place, _ = strike.changes[-1]
-        if out:
+        if ran:
+            places, block = ran
             title = block(places[step]) if step < len(places) else "behind the end"
         else:
             title = place if place.startswith("x") else "words"
@@ -296,12 +302,17 @@ def gathered(names):
     return found, bounds, wrong
 
 
-def words():
-    """The words of the call."""
-    parser = argparse.ArgumentParser(description=__doc__.split("\n", 1)[0], epilog="Exit status: 1 if a text is missing or not whole.")
+def add_texts(parser):
+    """The words that name the texts."""
     parser.add_argument("files", nargs="*", metavar="FILE", help="a text that `qed campaign` printed")
     parser.add_argument("--seeds", metavar="A-B", help="read seed-A.txt to seed-B.txt too, and list those that are missing")
     parser.add_argument("--folder", metavar="F", default=".", help="the folder of the texts of --seeds (default: this one)")
+
+
+def words():
+    """The words of the call."""
+    parser = argparse.ArgumentParser(description=__doc__.split("\n", 1)[0], epilog="Exit status: 1 if a text is missing or not whole.")
+    add_texts(parser)
     parser.add_argument("--out", metavar="OUT", help="the output that was struck: the map is then by the block that was running")
     parser.add_argument("--csv", metavar="FILE", help="store a row for each strike")
     parser.add_argument("--histogram", metavar="FILE.svg", help="store the latencies against the bounds as an SVG picture")
@@ -311,6 +322,12 @@ def words():
         path = getattr(given, name)
         if path and not path.endswith(".svg"):
             parser.error(f"--{name} writes SVG: name it {os.path.splitext(path)[0]}.svg")
+    add_seeds(parser, given)
+    return given
+
+
+def add_seeds(parser, given):
+    """Adds the texts of --seeds to the files."""
     seeds = re.fullmatch(r"(\d+)-(\d+)", given.seeds or "0-0")
     if not seeds:
         parser.error("--seeds has the form A-B")
@@ -318,7 +335,6 @@ def words():
         given.files += [os.path.join(given.folder, f"seed-{seed}.txt") for seed in range(int(seeds[1]), int(seeds[2]) + 1)]
     if not given.files:
         parser.error("no texts")
-    return given
 
 
 def main():
@@ -334,7 +350,7 @@ def main():
     print(totals(strikes, bounds, any(strike.result for strike in ends) and all(strike.result for strike in ends)))
     print_histograms(strikes, bounds)
     try:
-        rows = rows_of_map(strikes, given.out)
+        rows = rows_of_map(strikes, blocks_of(given.out, last_step(strikes)) if given.out else None)
     except NoOutput as error:
         print(f"strikes.py: {error}", file=sys.stderr)
         return 1
