@@ -25,6 +25,7 @@ pub mod Drift
 pub mod Offset
 pub mod PieceCosts
 pub mod Blocks
+pub mod Inside
 pub mod Strays
 pub mod Off
 pub mod Unmarked

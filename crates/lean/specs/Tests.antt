@@ -24,7 +24,7 @@ use Rattle.qed_model.specs.Weave.LeanCode.{lean_items}
 use Rattle.qed_model.specs.Weave.LeanBounds.{lean_bounds}
 use Rattle.weave_core.specs.Leaving.{sweep_cost}
 use Rattle.qed_model.specs.Promise.Faults.{FaultsFound}
-use Rattle.lean.specs.Strayed.{Strayed, Displaced, code_in, entry_in}
+use Rattle.lean.specs.Strayed.{Strayed, Displaced, Adrift, code_in, entry_in}
 
 -- ---- the test
 -- the file is admitted, with sound options of the lean form, and these are its blocks
@@ -100,11 +100,18 @@ LeanTestsStrayed =
     (f : ElfFile) (o : Options) (every : ℕ) (blocks : List Block) (words : List ℕ) → IsLeanTest f o every blocks words → o.land ≡ true
     → Strayed (loaded_file (file_read (lean_file f o every blocks words))) (code_in f o every blocks) (entry_in f o every blocks) blocks
 
--- a run at the entry of a block under another signature is over
+-- a run at or in a block under the signature of another one is over
 abbrev pub LeanTestsDisplaced : Type 0
 LeanTestsDisplaced =
     (f : ElfFile) (o : Options) (every : ℕ) (blocks : List Block) (words : List ℕ) → IsLeanTest f o every blocks words
-    → Displaced (loaded_file (file_read (lean_file f o every blocks words))) (entry_in f o every blocks) blocks
+    → Displaced (loaded_file (file_read (lean_file f o every blocks words))) (code_in f o every blocks) (entry_in f o every blocks) blocks
+
+-- one with another number in x14 is too
+abbrev pub LeanTestsAdrift : Type 0
+LeanTestsAdrift =
+    (f : ElfFile) (o : Options) (every : ℕ) (blocks : List Block) (words : List ℕ) → IsLeanTest f o every blocks words
+    → Adrift (loaded_file (file_read (lean_file f o every blocks words))) (code_in f o every blocks) (half_of o.half (image_of f))
+    (entry_in f o every blocks) blocks
 
 -- with the sweep no change before it is silent at the end
 abbrev pub LeanTestsClean : Type 0

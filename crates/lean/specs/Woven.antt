@@ -24,7 +24,7 @@ use Rattle.weave_core.specs.Leaving.{sweep_cost}
 use Rattle.weave_core.specs.World.{World, Known, Ins, class_of, Program}
 use Rattle.weave_core.specs.Blocks.{IsEntryOf, TableAt}
 use Rattle.weave_core.specs.Weave.{Weave}
-use Rattle.lean.specs.Strayed.{Strayed, Displaced}
+use Rattle.lean.specs.Strayed.{Strayed, Displaced, Adrift}
 use Rattle.lean.specs.Ticked.{is_ticked_at}
 
 -- the most steps of the check, with the look-ups behind it
@@ -159,7 +159,11 @@ LeanStrayed =
 
 -- a run at the entry of a block under another signature is over, also without `land`
 abbrev pub LeanDisplaced : Type 0
-LeanDisplaced = (f g : Program) (w : World) (l : Lean) (blocks : List Block) → LeanPlan f g w l blocks → Displaced g w.entry blocks
+LeanDisplaced = (f g : Program) (w : World) (l : Lean) (blocks : List Block) → LeanPlan f g w l blocks → Displaced g (worded w.form w.base w.entry l (begins_at blocks)) w.entry blocks
+
+-- and so is one with another number in x14
+abbrev pub LeanAdrift : Type 0
+LeanAdrift = (f g : Program) (w : World) (l : Lean) (blocks : List Block) → LeanPlan f g w l blocks → Adrift g (worded w.form w.base w.entry l (begins_at blocks)) w.distance w.entry blocks
 
 -- with the sweep no change before it is silent at the end
 abbrev pub LeanClean : Type 0

@@ -1,7 +1,7 @@
 //! What is promised of the lean form.
 ghost use Rattle.lean.specs.Tests.{LeanTestsHaveWords, LeanTestsWritable, LeanTestsKept, LeanTestsCaught, LeanTestsFaults};
-ghost use Rattle.lean.specs.Tests.{LeanTestsLanded, LeanTestsStrayed, LeanTestsDisplaced, LeanTestsClean};
-ghost use Rattle.lean.specs.Woven.{LeanKept, LeanKeptInStep, LeanCaught, LeanLanded, LeanStrayed, LeanDisplaced, LeanClean};
+ghost use Rattle.lean.specs.Tests.{LeanTestsLanded, LeanTestsStrayed, LeanTestsDisplaced, LeanTestsAdrift, LeanTestsClean};
+ghost use Rattle.lean.specs.Woven.{LeanKept, LeanKeptInStep, LeanCaught, LeanLanded, LeanStrayed, LeanDisplaced, LeanAdrift, LeanClean};
 
 /// A plan of the form keeps the input's values, with a bound on the steps of the output for each step of the input, and
 /// no check fires without changes.
@@ -31,10 +31,15 @@ pub fn lean_strayed()
     ensures { LeanStrayed }
 {}
 
-/// In a plan of the form a run at the entry of a block under another signature is over, also where entries do not test
-/// it: the next check, end or indirect jump does.
+/// In a plan of the form a run at or in a block under the signature of another one is over, also where entries do not
+/// test it: the next check, end or indirect jump does.
 pub fn lean_displaced()
     ensures { LeanDisplaced }
+{}
+
+/// In a plan of the form a run with another number in x14 than the distance is over.
+pub fn lean_adrift()
+    ensures { LeanAdrift }
 {}
 
 /// In a plan of the form with the sweep no change before it is silent at the end.
@@ -77,9 +82,14 @@ pub fn lean_tests_strayed()
     ensures { LeanTestsStrayed }
 {}
 
-/// So is one at the entry of a block under another signature, with or without `land`.
+/// So is one at or in a block under the signature of another one, with or without `land`.
 pub fn lean_tests_displaced()
     ensures { LeanTestsDisplaced }
+{}
+
+/// So is one with another number in x14 than the distance.
+pub fn lean_tests_adrift()
+    ensures { LeanTestsAdrift }
 {}
 
 /// With the sweep no change before it is silent at the end.

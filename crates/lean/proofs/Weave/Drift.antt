@@ -1,10 +1,10 @@
--- Words that keep x15 and the signature and go on, or skip a word: from any of them the run gets behind them all, or is over.
+-- Words that keep x14, x15 and the signature and go on, or skip a word: from any of them the run gets behind them all, or is over.
 use Rattle.std.proofs.Common.{◌≡◌, ℕ, zero, suc, ◌+◌, ◌*◌, ◌%◌, ◌^◌, ◌≤◌, ◌⊎◌, inl, inr, ⊎_elim, Bool, true, false, cond, not, List, [], ◌∷◌, ◌++◌, length, refl, sym, ap, ◌∙◌, subst, arith}
 use Rattle.std.specs.Prelude.{◌==◌, ◌&&◌, pos, slice_index}
 use Rattle.std.specs.List.{list_all}
 use Rattle.std.proofs.lemmas.Bool.{and_parts, ne_eqb, false≢true}
 use Rattle.rv_isa.specs.declared.class.Class.TheVariants as class
-use Rattle.rv_isa.proofs.RegsLaws.{slice_index-set_reg_other}
+pub use Rattle.rv_isa.proofs.RegsLaws.{slice_index-set_reg_other, slice_index-set_reg_same, slice_index-set_reg_zero, length-set_reg}
 use Rattle.machine.specs.declared.outcome.Cause.{Cause}
 use Rattle.machine.specs.declared.outcome.Cause.TheVariants as cause
 use Rattle.machine.specs.Table.{ins, Ins, Auipc, Addi, Beq}
@@ -18,23 +18,23 @@ use Rattle.qed_model.specs.Weave.Placed.{sum_of_sizes}
 use Rattle.machine.specs.Offsets.{distance_between, upper_part, lower_part}
 use Rattle.qed_model.specs.Weave.Lean.{is_break, cost, check_distance, check_way, guard_value, mirrored_store}
 use Rattle.qed_model.specs.Weave.LeanCode.{is_store, store_part, both_parts, parts_with, piece}
-use Rattle.qed_model.specs.Weave.Sequences.{Reads, fired_check, guard, guards, guards_of, links, original, original_as, mirrored, mirror_as, each_part, LAST_ORIGINAL, PAIR_DISTANCE, CURSOR, SIGNATURE, TEMPORARY, pair}
+use Rattle.qed_model.specs.Weave.Sequences.{Reads, fired_check, guard, guards, guards_of, links, original, original_as, mirrored, mirror_as, each_part, LAST_ORIGINAL, PAIR_DISTANCE, DISTANCE, CURSOR, SIGNATURE, TEMPORARY, pair}
 use Rattle.machine.specs.Operands.{is_auipc}
 use Rattle.qed_model.proofs.Lemmas.{all_fine, fine_part}
 pub use Rattle.machine.proofs.Lemmas.{step-class, Over, known_at, run-more, over_moved, difference, run-none, each_kind}
 use Rattle.weave_core.specs.Blocks.{IsLowAs, FitsPiece, AllFit}
 use Rattle.weave_core.specs.World.{World, Item, Mark, Plain, Constant, Go, Going, grants, number, put, wrapped, holds, width_of, loaded, State, reg, moved, stored, trapped, jumped, imm, place, result, next_pc, execute, Known, next, step, run, target, Kind, Class, class_of, set_reg}
-pub use Rattle.weave_core.proofs.Lemmas.{auipc_is, IsBodyWord, body_computes, body_loads, body_stores, body_fences, body_word, operates_class, jumped_to, pc_four, Standing, standing_step, one_run, WeaveIn, go_walk, go_most, branch_passed, step-break, sets_compute, writes, writes_out, writes_long, standing_run, flagged_moved, standing_at, sized_step}
+pub use Rattle.weave_core.proofs.Lemmas.{auipc_is, IsBodyWord, body_computes, body_loads, body_stores, body_fences, body_word, operates_class, jumped_to, pc_four, Standing, standing_step, one_run, WeaveIn, go_walk, go_most, branch_passed, step-break, sets_compute, writes, writes_out, writes_long, standing_run, flagged_moved, standing_at, sized_step, sets_equal, sign_walk}
 use Rattle.lean.specs.Strayed.{IsOver}
 use Rattle.lean.proofs.Weave.Chain.{break_is, no_break}
 use Rattle.lean.proofs.Weave.Piece.{store_class}
 
 -- ---- the words
--- not x15 or x16
+-- not x14, x15 or x16
 abbrev pub is_other : ℕ → Bool
-is_other r = not (r == 15) && not (r == 16)
+is_other r = not (r == 14) && (not (r == 15) && not (r == 16))
 
--- it keeps x15 and x16, and goes on behind it, fires or traps
+-- it keeps x14 to x16, and goes on behind it, fires or traps
 abbrev pub drifts_as : Class → Ins → Bool
 drifts_as class.Compute i = is_other i.rd
 drifts_as class.Load i = is_other i.rd
@@ -113,11 +113,11 @@ drifts_guards_of i = drifts_append (guard i.rs1) (cond (i.rs2 == i.rs1) [] (guar
 
 -- a register below x14, or a pair
 other_low : (r : ℕ) → r ≤ LAST_ORIGINAL → is_other r ≡ true
-other_low r h = rw (ne_eqb r 15 (λ e. absurd (omega (arith, h, e))), ne_eqb r 16 (λ e. absurd (omega (arith, h, e)))) refl
+other_low r h = rw (ne_eqb r 14 (λ e. absurd (omega (arith, h, e))), ne_eqb r 15 (λ e. absurd (omega (arith, h, e))), ne_eqb r 16 (λ e. absurd (omega (arith, h, e)))) refl
 
 other_pair : (r : ℕ) → is_other (pair r) ≡ true
 other_pair zero = refl
-other_pair (suc r) = rw (ne_eqb (suc r + PAIR_DISTANCE) 15 (λ e. absurd (omega (arith, e))), ne_eqb (suc r + PAIR_DISTANCE) 16 (λ e. absurd (omega (arith, e)))) refl
+other_pair (suc r) = rw (ne_eqb (suc r + PAIR_DISTANCE) 14 (λ e. absurd (omega (arith, e))), ne_eqb (suc r + PAIR_DISTANCE) 15 (λ e. absurd (omega (arith, e))), ne_eqb (suc r + PAIR_DISTANCE) 16 (λ e. absurd (omega (arith, e)))) refl
 
 pub drifts_links : (i : Ins) (at : ℕ) → i.rd ≤ LAST_ORIGINAL → Drifts (links i at)
 drifts_links i at h = by (i.rd == 0) where
@@ -252,29 +252,31 @@ comes_on P Q u m n c f =
     c.is
 
 module _ (w : World) where
-  -- a state that goes on, over the code, with a signature and a number in x15
-  pub record Drifting (x : ℕ × ℕ) (u : State) : Type 0 where
+  -- a state that goes on, over the code, with a signature and numbers in x15 and x14
+  pub record Drifting (x : ℕ × ℕ × ℕ) (u : State) : Type 0 where
     pub going : u.outcome ≡ Going
     pub standing : Standing w.code w.output u
     pub sign : reg u SIGNATURE ≡ x.0
     pub cursor : reg u CURSOR ≡ x.1
+    pub distance : reg u DISTANCE ≡ x.2
 
   -- before such words
-  abbrev pub Before : ℕ × ℕ → List Item → State → Type 0
+  abbrev pub Before : ℕ × ℕ × ℕ → List Item → State → Type 0
   Before sign xs y = Drifting sign y × Reads false w.code w.entry y.pc xs
 
-  pub over_of : (sign : ℕ × ℕ) (u : State) → Drifting sign u → Over w.code u
+  pub over_of : (sign : ℕ × ℕ × ℕ) (u : State) → Drifting sign u → Over w.code u
   over_of sign u a = record { going = a.going; code = a.standing.code }
 
   -- ---- one word
   -- to other registers, at a pc
   goes_to :
-      (sign : ℕ × ℕ) (u : State) (i : Ins) (regs : List ℕ) → Drifting sign u → w.code u.pc ≡ Known i → step u ≡ moved regs (next_pc u) u → slice_index regs 15 ≡ reg u CURSOR → slice_index regs 16 ≡ reg u SIGNATURE
+      (sign : ℕ × ℕ × ℕ) (u : State) (i : Ins) (regs : List ℕ) → Drifting sign u → w.code u.pc ≡ Known i → step u ≡ moved regs (next_pc u) u
+      → (slice_index regs 14 ≡ reg u DISTANCE) × (slice_index regs 15 ≡ reg u CURSOR) × (slice_index regs 16 ≡ reg u SIGNATURE)
       → Drifting sign (step u) × ((step u).pc ≡ u.pc + 4)
-  goes_to sign u i regs a h e kept same =
-      (record { going = ap (λ s. s.outcome) e ∙ a.going; standing = standing_step w.code w.output w.output_fixed u a.standing; sign = ap (λ s. reg s SIGNATURE) e ∙ same ∙ a.sign; cursor = ap (λ s. reg s CURSOR) e ∙ kept ∙ a.cursor }, ap (λ s. s.pc) e ∙ pc_four w u i h)
+  goes_to sign u i regs a h e kept =
+      (record { going = ap (λ s. s.outcome) e ∙ a.going; standing = standing_step w.code w.output w.output_fixed u a.standing; sign = ap (λ s. reg s SIGNATURE) e ∙ kept.2 ∙ a.sign; cursor = ap (λ s. reg s CURSOR) e ∙ kept.1 ∙ a.cursor; distance = ap (λ s. reg s DISTANCE) e ∙ kept.0 ∙ a.distance }, ap (λ s. s.pc) e ∙ pc_four w u i h)
 
-  word_step : (sign : ℕ × ℕ) (u : State) (i : Ins) → Drifting sign u → w.code u.pc ≡ Known i → drifts i ≡ true → IsOver (step u).outcome ⊎ (Drifting sign (step u) × ((step u).pc ≡ u.pc + 4))
+  word_step : (sign : ℕ × ℕ × ℕ) (u : State) (i : Ins) → Drifting sign u → w.code u.pc ≡ Known i → drifts i ≡ true → IsOver (step u).outcome ⊎ (Drifting sign (step u) × ((step u).pc ≡ u.pc + 4))
   unfolding execute
   word_step sign u i a h d = by (class_of i.kind) refl d where
     known : next u ≡ Known i
@@ -286,34 +288,36 @@ module _ (w : World) where
     apart : (q : ℕ) → is_other q ≡ false → is_other i.rd ≡ true → q ≡ i.rd → ⊥
     apart q z n e = false≢true (sym z ∙ subst (λ r. is_other r ≡ true) (sym e) n)
 
-    -- neither is changed
-    kept : (v : ℕ) → is_other i.rd ≡ true → (slice_index (set_reg i.rd v u.regs) 15 ≡ reg u CURSOR) × (slice_index (set_reg i.rd v u.regs) 16 ≡ reg u SIGNATURE)
-    kept v n = (slice_index-set_reg_other u.regs i.rd v 15 (apart 15 refl n), slice_index-set_reg_other u.regs i.rd v 16 (apart 16 refl n))
+    -- none is changed
+    kept :
+        (v : ℕ) → is_other i.rd ≡ true
+        → (slice_index (set_reg i.rd v u.regs) 14 ≡ reg u DISTANCE) × (slice_index (set_reg i.rd v u.regs) 15 ≡ reg u CURSOR) × (slice_index (set_reg i.rd v u.regs) 16 ≡ reg u SIGNATURE)
+    kept v n = (slice_index-set_reg_other u.regs i.rd v 14 (apart 14 refl n), slice_index-set_reg_other u.regs i.rd v 15 (apart 15 refl n), slice_index-set_reg_other u.regs i.rd v 16 (apart 16 refl n))
 
     loads : (b : Bool) (v : ℕ) (c : Cause) → is_other i.rd ≡ true → step u ≡ cond b (moved (set_reg i.rd v u.regs) (next_pc u) u) (trapped c u) → IsOver (step u).outcome ⊎ (Drifting sign (step u) × ((step u).pc ≡ u.pc + 4))
-    loads true v c n e = let k = kept v n in inr (goes_to sign u i (set_reg i.rd v u.regs) a h e k.0 k.1)
+    loads true v c n e = inr (goes_to sign u i (set_reg i.rd v u.regs) a h e (kept v n))
     loads false v c n e = inl (inr (ap (λ s. is_trapped s.outcome) e))
 
     stores : (b : Bool) (n v : ℕ) (c : Cause) → step u ≡ cond b (stored (put u.memory (place i u) n v) (next_pc u) u) (trapped c u) → IsOver (step u).outcome ⊎ (Drifting sign (step u) × ((step u).pc ≡ u.pc + 4))
-    stores true n v c e = inr (record { going = ap (λ s. s.outcome) e ∙ a.going; standing = standing_step w.code w.output w.output_fixed u a.standing; sign = ap (λ s. reg s SIGNATURE) e ∙ a.sign; cursor = ap (λ s. reg s CURSOR) e ∙ a.cursor }, ap (λ s. s.pc) e ∙ pc_four w u i h)
+    stores true n v c e = inr (record { going = ap (λ s. s.outcome) e ∙ a.going; standing = standing_step w.code w.output w.output_fixed u a.standing; sign = ap (λ s. reg s SIGNATURE) e ∙ a.sign; cursor = ap (λ s. reg s CURSOR) e ∙ a.cursor; distance = ap (λ s. reg s DISTANCE) e ∙ a.distance }, ap (λ s. s.pc) e ∙ pc_four w u i h)
     stores false n v c e = inl (inr (ap (λ s. is_trapped s.outcome) e))
 
     by : (k : Class) → class_of i.kind ≡ k → drifts_as k i ≡ true → IsOver (step u).outcome ⊎ (Drifting sign (step u) × ((step u).pc ≡ u.pc + 4))
-    by class.Compute e d = let k = kept (result i.kind i u) d in inr (goes_to sign u i (set_reg i.rd (result i.kind i u) u.regs) a h (does class.Compute e) k.0 k.1)
+    by class.Compute e d = inr (goes_to sign u i (set_reg i.rd (result i.kind i u) u.regs) a h (does class.Compute e) (kept (result i.kind i u) d))
     by class.Load e d = loads (grants (λ f. f.read) u.memory (place i u) (width_of i.kind)) (loaded i.kind (number u.memory (place i u) (width_of i.kind))) (cause.Load (place i u)) d (does class.Load e)
     by class.Store e d = stores (grants (λ f. f.write) u.memory (place i u) (width_of i.kind)) (width_of i.kind) (reg u i.rs2) (cause.Store (place i u)) (does class.Store e)
-    by class.Fence e d = inr (goes_to sign u i u.regs a h (does class.Fence e) refl refl)
+    by class.Fence e d = inr (goes_to sign u i u.regs a h (does class.Fence e) (refl, refl, refl))
     by class.Break e d = inl (inl (ap (λ s. s.outcome) (does class.Break e)))
     by k e d = absurd (cc)
 
   -- ---- several
   -- from the begin of such words
   abbrev Good : List Item → Type 0
-  Good xs = (x : ℕ × ℕ) (u : State) (rest : List Item) → Drifting x u → Reads false w.code w.entry u.pc (xs ++ rest) → Comes (Before x rest) u (cost xs)
+  Good xs = (x : ℕ × ℕ × ℕ) (u : State) (rest : List Item) → Drifting x u → Reads false w.code w.entry u.pc (xs ++ rest) → Comes (Before x rest) u (cost xs)
 
   -- a word goes on to the next, or is over
   on_word :
-      (x : ℕ × ℕ) (u : State) (i : Ins) (xs rest : List Item) → Drifting x u → Reads false w.code w.entry u.pc (Plain i ∷ xs ++ rest) → drifts i ≡ true → Good xs
+      (x : ℕ × ℕ × ℕ) (u : State) (i : Ins) (xs rest : List Item) → Drifting x u → Reads false w.code w.entry u.pc (Plain i ∷ xs ++ rest) → drifts i ≡ true → Good xs
       → Comes (Before x rest) u (cond (is_break i.kind) 0 1 + cost xs)
   unfolding execute
   on_word x u i xs rest a r d good = by (is_break i.kind) refl where
@@ -340,7 +344,7 @@ module _ (w : World) where
 
   -- a branch over a word goes on to it, or behind it
   on_skip :
-      (x : ℕ × ℕ) (u : State) (i : Ins) (xs rest : List Item) → Drifting x u → Reads false w.code w.entry u.pc (Plain i ∷ xs ++ rest) → Skips i xs → Good xs → Good (behind xs)
+      (x : ℕ × ℕ × ℕ) (u : State) (i : Ins) (xs rest : List Item) → Drifting x u → Reads false w.code w.entry u.pc (Plain i ∷ xs ++ rest) → Skips i xs → Good xs → Good (behind xs)
       → Comes (Before x rest) u (cond (is_break i.kind) 0 1 + cost xs)
   unfolding execute jumped
   on_skip x u i xs rest a r s good far =
@@ -350,7 +354,7 @@ module _ (w : World) where
       (comes_one _ u (inr (by (holds i.kind (reg u i.rs1) (reg u i.rs2)) (step-class u i class.Branch a.going (known_at w.code u i (over_of x u a) r.0) s.0))))
       (λ y b. ⊎_elim (λ h. good x y rest h.0 h.1) (λ h. comes_more (Before x rest) y (cost (behind xs)) (cost xs) (cost_behind xs) (far x y rest h.0 h.1)) b)) where
         there : (p : ℕ) → step u ≡ moved u.regs p u → Drifting x (step u) × ((step u).pc ≡ p)
-        there p e = (record { going = ap (λ z. z.outcome) e ∙ a.going; standing = standing_step w.code w.output w.output_fixed u a.standing; sign = ap (λ z. reg z SIGNATURE) e ∙ a.sign; cursor = ap (λ z. reg z CURSOR) e ∙ a.cursor }, ap (λ z. z.pc) e)
+        there p e = (record { going = ap (λ z. z.outcome) e ∙ a.going; standing = standing_step w.code w.output w.output_fixed u a.standing; sign = ap (λ z. reg z SIGNATURE) e ∙ a.sign; cursor = ap (λ z. reg z CURSOR) e ∙ a.cursor; distance = ap (λ z. reg z DISTANCE) e ∙ a.distance }, ap (λ z. z.pc) e)
 
         goal : (u.pc + imm i) % 2 ^ 64 ≡ u.pc + 4 + 4
         goal = let low = w.low u.pc i r.0 in let z : imm i ≡ 8 = ap wrapped s.1 in omega (arith, low, z)
@@ -370,10 +374,10 @@ module _ (w : World) where
   abbrev second : ℕ → ℕ → ℕ → Ins
   second p r v = ins Addi r r 0 (lower_part (distance_between p v))
 
-  on_second : (x : ℕ × ℕ) (p : ℕ) (u : State) (r v : ℕ) (xs rest : List Item) → Drifting x u → is_other r ≡ true → w.code u.pc ≡ Known (second p r v) → Reads false w.code w.entry (u.pc + 4) (xs ++ rest) → Good xs → Comes (Before x rest) u (1 + cost xs)
+  on_second : (x : ℕ × ℕ × ℕ) (p : ℕ) (u : State) (r v : ℕ) (xs rest : List Item) → Drifting x u → is_other r ≡ true → w.code u.pc ≡ Known (second p r v) → Reads false w.code w.entry (u.pc + 4) (xs ++ rest) → Good xs → Comes (Before x rest) u (1 + cost xs)
   on_second x p u r v xs rest a ne h more good = on_word x u (second p r v) xs rest a (h, more) ne good
 
-  on_constant : (x : ℕ × ℕ) (u : State) (r v : ℕ) (xs rest : List Item) → Drifting x u → Reads false w.code w.entry u.pc (Constant r v ∷ xs ++ rest) → is_other r ≡ true → Good xs → Comes (Before x rest) u (2 + cost xs)
+  on_constant : (x : ℕ × ℕ × ℕ) (u : State) (r v : ℕ) (xs rest : List Item) → Drifting x u → Reads false w.code w.entry u.pc (Constant r v ∷ xs ++ rest) → is_other r ≡ true → Good xs → Comes (Before x rest) u (2 + cost xs)
   on_constant x u r v xs rest a h ne good =
       let i = ins Auipc r 0 0 (upper_part (distance_between u.pc v)) in
       let P : State → Type 0 = λ y. Drifting x y × (y.pc ≡ u.pc + 4) in
@@ -396,12 +400,12 @@ module _ (w : World) where
   both (Go t ∷ xs) d = absurd d
 
   -- ---- the law
-  pub drift : (xs : List Item) → Drifts xs → (x : ℕ × ℕ) (u : State) (rest : List Item) → Drifting x u → Reads false w.code w.entry u.pc (xs ++ rest) → Comes (Before x rest) u (cost xs)
+  pub drift : (xs : List Item) → Drifts xs → (x : ℕ × ℕ × ℕ) (u : State) (rest : List Item) → Drifting x u → Reads false w.code w.entry u.pc (xs ++ rest) → Comes (Before x rest) u (cost xs)
   drift xs d = (both xs d).0
 
   -- from any word of them, or behind them
   pub drift_from :
-      (xs : List Item) → Drifts xs → (k p : ℕ) (x : ℕ × ℕ) (u : State) (rest : List Item) → 4 * k ≤ sum_of_sizes false xs → Drifting x u → u.pc ≡ p + 4 * k → Reads false w.code w.entry p (xs ++ rest)
+      (xs : List Item) → Drifts xs → (k p : ℕ) (x : ℕ × ℕ × ℕ) (u : State) (rest : List Item) → 4 * k ≤ sum_of_sizes false xs → Drifting x u → u.pc ≡ p + 4 * k → Reads false w.code w.entry p (xs ++ rest)
       → Comes (Before x rest) u (cost xs)
   drift_from xs d zero p x u rest h a at r = drift xs d x u rest a (subst (λ q. Reads false w.code w.entry q (xs ++ rest)) (let e : p ≡ u.pc = omega (arith, at) in e) r)
   drift_from [] d (suc k) p x u rest h a at r = absurd (omega (arith, h))

@@ -8,7 +8,7 @@ use Rattle.qed_model.specs.Weave.Sequences.{Reads, guard, links, LAST_ORIGINAL, 
 use Rattle.qed_model.specs.Weave.Lean.{take_target, turn_leap, called, check_distance, look_up, look_again, leave_as, cost}
 use Rattle.qed_model.specs.Weave.LeanCode.{fall_to}
 use Rattle.machine.proofs.Lemmas.{Over, over_moved, Walk, walk_none, walk_on}
-use Rattle.weave_core.specs.World.{World, Quiet, Twice, Item, Plain, State, reg, moved, imm, next_pc, Known, step, class_of, set_reg}
+use Rattle.weave_core.specs.World.{World, Quiet, Twice, Item, State, reg, moved, imm, next_pc, Known, step, class_of, set_reg}
 use Rattle.weave_core.specs.Blocks.{IsEntryOf, Goes, TableAt}
 use Rattle.weave_core.specs.Rows.{At, Sourced}
 use Rattle.weave_core.specs.WeaveLaws.{lands, is_lost}

@@ -5,7 +5,7 @@ use Rattle.std.proofs.lemmas.Bool.{lt-ltb, le-ltb}
 use Rattle.rv_isa.specs.declared.class.Class.TheVariants as class
 use Rattle.machine.specs.Step.{State, Ins, class_of, reg, moved, jumped, result, computed_value, Fetched, Known, ins, Addi, Slli, Beq, Bge, Jal}
 use Rattle.machine.specs.Offsets.{distance_between}
-use Rattle.qed_model.specs.Weave.Sequences.{Reads, fired_check, CURSOR, SIGNATURE, TEMPORARY, SPARE}
+use Rattle.qed_model.specs.Weave.Sequences.{Reads, fired_check, CURSOR, SIGNATURE, TEMPORARY, SPARE, DISTANCE}
 use Rattle.qed_model.specs.Weave.Lean.{tick}
 use Rattle.qed_model.specs.Weave.LeanBounds.{call_steps}
 use Rattle.machine.proofs.Lemmas.{Over, over_moved, known_at, Walk, walk_one, walk_on, difference}
@@ -129,6 +129,7 @@ module _ (w : World) (u : State) (most n offset : ℕ) (o : Over w.code u) (long
     pub effects : List (ℕ × ℕ)
     pub temps : AllTemps effects
     pub walk : Walk (Quiet w) u (3 + call_steps land) (moved (writes effects u.regs) to u)
+    pub fourteen : slice_index (writes effects u.regs) 14 ≡ reg u DISTANCE
     pub fifteen : slice_index (writes effects u.regs) 15 ≡ with_count offset (n + most)
     pub sixteen : slice_index (writes effects u.regs) 16 ≡ reg u SIGNATURE
     pub thirty : slice_index (writes effects u.regs) 30 ≡ a
@@ -162,6 +163,7 @@ module _ (w : World) (u : State) (most n offset : ℕ) (o : Over w.code u) (long
           effects = ticked;
           temps = all_temps ticked refl;
           walk = walk_on (Quiet w) u before _ 2 2 f.walk (walk_on (Quiet w) before y _ 1 1 one last);
+          fourteen = read_back ticked u.regs 14 long refl;
           fifteen = read_back ticked u.regs 15 long refl;
           sixteen = read_back ticked u.regs 16 long refl;
           thirty = read_back ticked u.regs 30 long refl ∙ named refl;
@@ -186,6 +188,7 @@ module _ (w : World) (u : State) (most n offset : ℕ) (o : Over w.code u) (long
           effects = ws;
           temps = all_temps ws refl;
           walk = walk_on (Quiet w) u before _ 2 4 f.walk (walk_on (Quiet w) before x _ 1 3 one (walk_on (Quiet w) x y _ 2 1 two last));
+          fourteen = read_back ws u.regs 14 long refl;
           fifteen = read_back ws u.regs 15 long refl;
           sixteen = read_back ws u.regs 16 long refl;
           thirty = read_back ws u.regs 30 long refl;
