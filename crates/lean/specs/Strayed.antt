@@ -1,4 +1,4 @@
--- Promises of the lean form on stray jumps: if a block is entered or runs under another signature, the run is over soon.
+-- Promises of the lean form on stray jumps and on x14: if a block runs under another signature, the run is over soon.
 use Rattle.std.specs.Prelude.{◌≡◌, ℕ, ◌+◌, ◌*◌, ◌/◌, ◌%◌, ◌^◌, ◌<◌, ◌≤◌, ◌⊎◌, true, false, List}
 use Rattle.machine.specs.Members.{Among}
 use Rattle.machine.specs.declared.outcome.Outcome.{Outcome}

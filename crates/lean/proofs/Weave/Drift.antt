@@ -1,4 +1,4 @@
--- Words that keep x14, x15 and the signature and go on, or skip a word: from any of them the run gets behind them all, or is over.
+-- Words that keep x14, x15 and the signature and go on, or skip a word: the run gets behind them all, or is over.
 use Rattle.std.proofs.Common.{◌≡◌, ℕ, zero, suc, ◌+◌, ◌*◌, ◌%◌, ◌^◌, ◌≤◌, ◌⊎◌, inl, inr, ⊎_elim, Bool, true, false, cond, not, List, [], ◌∷◌, ◌++◌, length, refl, sym, ap, ◌∙◌, subst, arith}
 use Rattle.std.specs.Prelude.{◌==◌, ◌&&◌, pos, slice_index}
 use Rattle.std.specs.List.{list_all}

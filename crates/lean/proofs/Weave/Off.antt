@@ -1,4 +1,4 @@
--- A signature that is off stays off from block to block, until a tick goes to the check, the test ends, or it goes on where a register leads. Each of these fires.
+-- A wrong signature, or a wrong number in x14, stays wrong from block to block. A tick's check, an end or a JALR fires.
 use Rattle.std.proofs.Common.{◌≡◌, ℕ, zero, suc, ◌+◌, ◌-◌, ◌*◌, ◌/◌, ◌%◌, ◌^◌, ◌<◌, ◌≤◌, ◌⊎◌, inl, inr, ⊎_elim, Bool, true, false, cond, List, [], ◌∷◌, ◌++◌, refl, sym, ap, ◌∙◌, subst, arith, length}
 use Rattle.std.specs.Prelude.{◌==◌, ◌||◌, pos, neg_ℤ}
 use Rattle.std.proofs.lemmas.Bool.{and_parts, eqb-true, eq-eqb, or_left, or_right, cases_lt, cases_eq}

@@ -1,4 +1,4 @@
--- A leave under another signature: it turns that by a distance, so it comes to the next entry under another one too, or the test of an end fires.
+-- A leave under a wrong signature, or with a wrong x14: the next entry has a wrong one too, or the leave's test fires.
 use Rattle.std.proofs.Common.{◌≡◌, ℕ, zero, suc, ◌+◌, ◌*◌, ◌/◌, ◌%◌, ◌^◌, ◌<◌, ◌≤◌, ◌⊎◌, inl, inr, ⊎_elim, Bool, true, false, cond, List, [], ◌∷◌, ◌++◌, length, refl, sym, ap, ◌∙◌, subst, arith, append_assoc}
 use Rattle.std.specs.Prelude.{◌==◌, ◌-◌, pos}
 use Rattle.std.proofs.lemmas.Bool.{eqb-true, ne_eqb, cases_eq}

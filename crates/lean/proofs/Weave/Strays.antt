@@ -1,4 +1,4 @@
--- A jump that goes astray into a block with another signature: the pieces end in the leave, which turns the signature to where it leads, and the test there fires.
+-- A jump that strays into a block with another signature: the leave turns that to where it leads; the test there fires.
 use Rattle.std.proofs.Common.{◌≡◌, ℕ, ◌+◌, ◌*◌, ◌^◌, ◌<◌, ◌≤◌, ◌⊎◌, inl, ⊎_elim, Bool, true, false, List, [], ◌∷◌, ◌++◌, refl, sym, ◌∙◌, subst, arith}
 use Rattle.std.proofs.lemmas.Bool.{false≢true}
 use Rattle.rv_isa.specs.declared.class.Class.TheVariants as class
