@@ -57,7 +57,7 @@ pub record HasCount (x : ℕ) : Type 0 where
 abbrev pub displaced_steps : ℕ
 displaced_steps = 2 * 2047 + 12
 
--- from inside of a block
+-- and from inside of a block
 abbrev pub displaced_inside : Sequences → Block → ℕ
 displaced_inside s b = steps_in s b + 8 + displaced_steps
 

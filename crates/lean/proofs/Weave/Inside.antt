@@ -47,13 +47,13 @@ module _ (f g : Program) (w : World) (l : Lean) (blocks : List Block) (p : LeanP
   v = lean_weave_of w l leader
 
   -- the state of a run, anywhere else
-  pub astray_at : (regs : List ℕ) (t q : ℕ) → AreStartRegs regs → (after_output g regs t).outcome ≡ Going → let s = after_output g regs t in Drifting w (reg s SIGNATURE, reg s CURSOR, reg s DISTANCE) (placed_at q s)
-  astray_at regs t q are going =
+  pub drifting_at : (regs : List ℕ) (t q : ℕ) → AreStartRegs regs → (after_output g regs t).outcome ≡ Going → let s = after_output g regs t in Drifting w (reg s SIGNATURE, reg s CURSOR, reg s DISTANCE) (placed_at q s)
+  drifting_at regs t q are going =
       let st = standing_at f g w v leader (woven f g w l blocks p) regs are t in
       record { going = going; standing = record { code = st.code; flagged = flagged_moved w.output (after_output g regs t) q st.flagged }; sign = refl; cursor = refl; distance = refl }
 
   -- from a word of its pieces to before its leave
-  module _ (x : ℕ × ℕ × ℕ) (y : State) (b : Block) (m : Among b blocks) (astray : Drifting w x y) (inside : IsInBlock (worded w.form w.base w.entry l leader) w.entry b y.pc) where
+  module _ (x : ℕ × ℕ × ℕ) (y : State) (b : Block) (m : Among b blocks) (drifting : Drifting w x y) (inside : IsInBlock (worded w.form w.base w.entry l leader) w.entry b y.pc) where
     abbrev pub at : ℕ
     at = b.start + 4 * body_length b.body
 
@@ -75,7 +75,7 @@ module _ (f g : Program) (w : World) (l : Lean) (blocks : List Block) (p : LeanP
         let enters = sum_of_sizes false (v.code.enter b.start) in
         let behind = reads_behind false w.code w.entry (w.entry b.start) (v.code.enter b.start) (body ++ v.code.leave b.end at) here.reads.1 in
         let reads : Reads false w.code w.entry (w.entry b.start + enters) (body ++ leaves) = subst (λ k. Reads false w.code w.entry (w.entry b.start + sum_of_sizes false (v.code.enter b.start)) (pieces_of v.code b.body b.start ++ leave l.distance (before_end w.form) (fall_to leader) b.end k (b.start + 4 * body_length b.body))) own behind in
-        drift_from w body (drifts_pieces w l leader b.body b.end b.start here.good.pieces) inside.words (w.entry b.start + enters) x y leaves (omega (arith, inside.within, same_size)) astray inside.there reads
+        drift_from w body (drifts_pieces w l leader b.body b.end b.start here.good.pieces) inside.words (w.entry b.start + enters) x y leaves (omega (arith, inside.within, same_size)) drifting inside.there reads
 
     -- and what comes of the leave
     pub from_inside : (P : State → Type 0) (n : ℕ) → ((u : State) → Drifting w x u → Reads false w.code w.entry u.pc leaves → Comes P u n) → Comes P y (cost body + n)

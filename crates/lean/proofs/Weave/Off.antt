@@ -29,7 +29,7 @@ use Rattle.lean.proofs.Weave.Offset.{Lost, to_far, to_near, beq_fires, at_illega
 use Rattle.lean.proofs.Weave.PieceCosts.{pieces_cost}
 use Rattle.lean.proofs.Weave.Plan.{BlockAt}
 use Rattle.lean.proofs.Weave.Promise.{block_at}
-use Rattle.lean.proofs.Weave.Inside.{small_at, few, from_inside, astray_at}
+use Rattle.lean.proofs.Weave.Inside.{small_at, few, from_inside, drifting_at}
 use Rattle.lean.proofs.Weave.Tick.{ticked, pass_row, call_row, jump_at}
 use Rattle.lean.proofs.Weave.Sign.{fires}
 
@@ -389,16 +389,16 @@ module _ (f g : Program) (w : World) (l : Lean) (blocks : List Block) (p : LeanP
   -- ---- the promises
   displaced : Displaced g (worded w.form w.base w.entry l leader) w.entry blocks
   displaced = record {
-    stops = λ regs t a are going leads count other. at_entry regs t (reg (after_output g regs t) DISTANCE) are count a (placed_at (w.entry a) (after_output g regs t)) leads (astray_at f g w l blocks p regs t (w.entry a) are going) refl (inl other);
-    inside = λ regs t q b are going m within count other. at_word regs t (reg (after_output g regs t) DISTANCE) are count b (placed_at q (after_output g regs t)) m (astray_at f g w l blocks p regs t q are going) within (inl other);
+    stops = λ regs t a are going leads count other. at_entry regs t (reg (after_output g regs t) DISTANCE) are count a (placed_at (w.entry a) (after_output g regs t)) leads (drifting_at f g w l blocks p regs t (w.entry a) are going) refl (inl other);
+    inside = λ regs t q b are going m within count other. at_word regs t (reg (after_output g regs t) DISTANCE) are count b (placed_at q (after_output g regs t)) m (drifting_at f g w l blocks p regs t q are going) within (inl other);
   }
 
   -- another number in x14
   in_regs : (regs : List ℕ) → length regs ≡ 32 → 14 < length regs
   in_regs regs h = omega (arith, h)
 
-  with_it : (x : ℕ × ℕ × ℕ) (u : State) (d : ℕ) → Drifting w x u → Drifting w (x.0, x.1, d) (with_distance d u)
-  with_it x u d a =
+  with_number : (x : ℕ × ℕ × ℕ) (u : State) (d : ℕ) → Drifting w x u → Drifting w (x.0, x.1, d) (with_distance d u)
+  with_number x u d a =
       let f = a.standing.flagged in
       record {
         going = a.going;
@@ -412,10 +412,10 @@ module _ (f g : Program) (w : World) (l : Lean) (blocks : List Block) (p : LeanP
   adrift = record {
     stops = λ regs t a x are going leads count other.
         let s = after_output g regs t in
-        at_entry regs t x are count a (with_distance x (placed_at (w.entry a) s)) leads (with_it (reg s SIGNATURE, reg s CURSOR, reg s DISTANCE) (placed_at (w.entry a) s) x (astray_at f g w l blocks p regs t (w.entry a) are going)) refl (inr (refl, other));
+        at_entry regs t x are count a (with_distance x (placed_at (w.entry a) s)) leads (with_number (reg s SIGNATURE, reg s CURSOR, reg s DISTANCE) (placed_at (w.entry a) s) x (drifting_at f g w l blocks p regs t (w.entry a) are going)) refl (inr (refl, other));
     inside = λ regs t q b x are going m within count other.
         let s = after_output g regs t in
-        at_word regs t x are count b (with_distance x (placed_at q s)) m (with_it (reg s SIGNATURE, reg s CURSOR, reg s DISTANCE) (placed_at q s) x (astray_at f g w l blocks p regs t q are going)) within (inr (refl, other));
+        at_word regs t x are count b (with_distance x (placed_at q s)) m (with_number (reg s SIGNATURE, reg s CURSOR, reg s DISTANCE) (placed_at q s) x (drifting_at f g w l blocks p regs t q are going)) within (inr (refl, other));
   }
 
 pub lean_displaced : LeanDisplaced

@@ -22,7 +22,7 @@ use Rattle.lean.proofs.Weave.Landed.{behind, tests}
 use Rattle.lean.proofs.Weave.Promise.{block_at}
 use Rattle.lean.proofs.Weave.Sign.{fires}
 use Rattle.lean.proofs.Weave.Offset.{Lost, end_stands, low_of, at_illegal, end_law, jump_law, branch_law, leap_law, falls_law}
-use Rattle.lean.proofs.Weave.Inside.{small_at, few, from_inside, astray_at}
+use Rattle.lean.proofs.Weave.Inside.{small_at, few, from_inside, drifting_at}
 
 module _ (f g : Program) (w : World) (l : Lean) (blocks : List Block) (p : LeanPlan f g w l blocks) (land : l.land ≡ true) where
   abbrev leader : ℕ → Bool
@@ -84,7 +84,7 @@ module _ (f g : Program) (w : World) (l : Lean) (blocks : List Block) (p : LeanP
       let ends = end_stands w l leader b.body b.end b.start here.good.pieces in
       let small = small_at f g w p.world regs are t 16 in
       let y = placed_at q (after_output g regs t) in
-      let off = astray_at f g w l blocks p regs t q are going in
+      let off = drifting_at f g w l blocks p regs t q are going in
       let size = few f g w l blocks p (reg (after_output g regs t) SIGNATURE, reg (after_output g regs t) CURSOR, reg (after_output g regs t) DISTANCE) y b m off within in
       let s = from_inside f g w l blocks p (reg (after_output g regs t) SIGNATURE, reg (after_output g regs t) CURSOR, reg (after_output g regs t) DISTANCE) y b m off within (λ y. ⊥) 18 (λ u k r. leave_law c (reg (after_output g regs t) DISTANCE) b.start x here.good.low small other b.end u (b.start + 4 * body_length b.body) ends k r) in
       record { steps = s.steps + 1; within = omega (arith, s.within, size); over = ⊎_elim (λ o. o) (λ z. absurd z) s.is }
