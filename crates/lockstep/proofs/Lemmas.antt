@@ -13,3 +13,4 @@ pub use Rattle.lockstep.proofs.Coded.{WordAt, reads_rest, stub_open, stub_words,
 pub use Rattle.lockstep.proofs.Promise.{BoundsBy, CaughtAll, Times, caught_of, settles, settles_all}
 pub use Rattle.lockstep.proofs.FormWords.{caught_with, form_words, visits_ten}
 pub use Rattle.lockstep.proofs.InstructionFaults.{faults_found, instruction_faults_are_caught}
+pub use Rattle.lockstep.proofs.WrongTurns.{tests_turned}

@@ -41,16 +41,16 @@ module _ (f g : Program) (w : World) (before per : ℕ) (code : CalmCode f g w b
         ap (λ p. is_checked (Known i) (w.code p)) on ∙ ap (is_checked (Known i)) (sym (loaded.code (next_pc u))) ∙ b.checked
 
     no : (k : Class) → class_of i.kind ≡ k → (k ≡ class.Branch → ⊥) → ChecksWays w.code u.pc i
-    no k e ne = absurd (ne (sym e ∙ b.branch))
+    no k e ne = absurd (ne (sym e ∙ b.own.branch))
 
     by : HasKind w.code u.pc i → ChecksWays w.code u.pc i
     by (scratch_compute e x y o) = no class.Compute e (λ z. absurd (cc))
     by (scratch_load e x y o) = no class.Load e (λ z. absurd (cc))
     by (scratch_store e x y o) = no class.Store e (λ z. absurd (cc))
     by (scratch_branch e x y o) =
-        let first = b.first in
-        let second = b.second in
-        let some = b.some in
+        let first = b.own.first in
+        let second = b.own.second in
+        let some = b.own.some in
         ⊎_elim (λ p. ⊎_elim (λ q. absurd (omega (arith, some, p, q))) (λ q. absurd (omega (arith, second, q))) y) (λ p. absurd (omega (arith, first, p))) x
     by (jumps e) = no class.Jump e (λ z. absurd (cc))
     by (scratch_jump e x) = no class.JumpReg e (λ z. absurd (cc))
@@ -58,8 +58,8 @@ module _ (f g : Program) (w : World) (before per : ℕ) (code : CalmCode f g w b
     by (fences e o) = no class.Fence e (λ z. absurd (cc))
     by (loads e x y o) = no class.Load e (λ z. absurd (cc))
     by (stores e x y o) = no class.Store e (λ z. absurd (cc))
-    by (guards q x is one most high brk behind) = let r : i.rs2 ≡ x = ap (λ j. j.rs2) is in let second = b.second in absurd (omega (arith, second, r, high))
-    by (guards_back q d is one most brk behind) = let r : i.rs2 ≡ q + 16 = ap (λ j. j.rs2) is in let second = b.second in absurd (omega (arith, second, r))
+    by (guards q x is one most high brk behind) = let r : i.rs2 ≡ x = ap (λ j. j.rs2) is in let second = b.own.second in absurd (omega (arith, second, r, high))
+    by (guards_back q d is one most brk behind) = let r : i.rs2 ≡ q + 16 = ap (λ j. j.rs2) is in let second = b.own.second in absurd (omega (arith, second, r))
     by (breaks e) = no class.Break e (λ z. absurd (cc))
     by (takes e x y o) = no class.Compute (ap class_of e) (λ z. absurd (cc))
     by (branches e x y not_checked o) = absurd (false≢true (sym not_checked ∙ checked))
@@ -79,7 +79,7 @@ module _ (f g : Program) (w : World) (before per : ℕ) (code : CalmCode f g w b
     by : (t : Bool) → holds i.kind (reg u i.rs1) (reg u i.rs2) ≡ t → Fires 2 (other_way t i u)
     by t e =
         let v = moved u.regs (way_of i u.pc (not t)) u in
-        let did : step u ≡ moved u.regs (way_of i u.pc t) u = branch_step u i (ways t).ins t go at b.branch (loaded.code (way_of i u.pc t) ∙ (ways t).known) e in
+        let did : step u ≡ moved u.regs (way_of i u.pc t) u = branch_step u i (ways t).ins t go at b.own.branch (loaded.code (way_of i u.pc t) ∙ (ways t).known) e in
         let next_is : run (start g regs) (n + 1) ≡ moved u.regs (way_of i u.pc t) u = run-last (start g regs) n ∙ did in
         let on : Undisturbed w.code (span_bytes w.form.spans) (moved u.regs (way_of i u.pc t) u) = subst (Undisturbed w.code (span_bytes w.form.spans)) next_is (quiet_at (n + 1) (omega arith) (ap (λ s. s.outcome) next_is ∙ go)) in
         subst (Fires 2) (sym (there t))

@@ -3,8 +3,8 @@ pub use Rattle.weave_core.proofs.Rows.{compute_walk, flagged_moved, halved_moved
 pub use Rattle.weave_core.proofs.Sized.{sized_step, small_put, width_le}
 pub use Rattle.weave_core.proofs.Words.{all_small, compare_stands}
 pub use Rattle.weave_core.proofs.Source.{has_front, not_trapped_front, not_trapped_le, source_run, steady_le, steady_rest}
-pub use Rattle.weave_core.proofs.Leaves.{branch_passed, branch_taken, end_walk, equal_holds, go_most, go_walk, halved_gone, jump_step, jumped_to, links_as, no_code, own_signed, sign_walk, step-branch, step-break, step-end, step-illegal, step-jump}
-pub use Rattle.weave_core.proofs.Branch.{Branches, Passes, branch_step, branch_to, guard_pass, own_pair, pass_none, pass_on}
+pub use Rattle.weave_core.proofs.Leaves.{Arrives, branch_passed, branch_taken, end_walk, equal_holds, go_most, go_walk, halved_gone, jump_step, jumped_to, links_as, no_code, own_signed, sign_walk, step-branch, step-break, step-end, step-illegal, step-jump}
+pub use Rattle.weave_core.proofs.Branch.{Branches, Passes, branch_step, branch_to, guard_pass, own_pair, pass_none, pass_on, skipped, skipped_grain}
 pub use Rattle.weave_core.proofs.Sets.{AllTemps, Sets, halved_writes, writes, writes_long, writes_out}
 unfoldable pub use Rattle.weave_core.proofs.Sets.{sets_compute, sets_const, sets_equal, sets_on}
 pub use Rattle.weave_core.proofs.Visit.{add_result, checked_behind, cursor_decided, cursor_is, sub_result, visit_later, visit_row, visit_some, word_low, words_within}

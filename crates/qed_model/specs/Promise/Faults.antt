@@ -11,7 +11,7 @@ use Rattle.machine.specs.Values.{holds, width_of}
 use Rattle.qed_model.specs.Promise.Changed.{IsDataWord}
 use Rattle.qed_model.specs.Promise.Closed.{is_checked}
 use Rattle.qed_model.specs.Promise.InStep.{SettlesWithin}
-use Rattle.qed_model.specs.Promise.Kept.{after_output}
+use Rattle.qed_model.specs.Promise.Kept.{after_output, is_trapped}
 use Rattle.qed_model.specs.Promise.Landed.{Fires}
 use Rattle.qed_model.specs.Promise.OwnSteps.{Covers}
 
@@ -32,12 +32,16 @@ pub record StoresOriginal (spans : List (ℕ × ℕ)) (i : Ins) (u : State) : Ty
   pub first : IsDataWord spans (word_around (place i u))
   pub last : IsDataWord spans (word_around (place i u + width_of i.kind - 1))
 
--- in this state it is a branch on x0 to x13, one of them not x0, and behind it stands one on their pairs
-pub record IsCheckedBranch (i : Ins) (u : State) : Type 0 where
+-- it is a branch on x0 to x13, one of them not x0
+pub record IsOwnBranch (i : Ins) : Type 0 where
   pub branch : class_of i.kind ≡ class.Branch
   pub first : i.rs1 ≤ LAST_ORIGINAL
   pub second : i.rs2 ≤ LAST_ORIGINAL
   pub some : 1 ≤ i.rs1 + i.rs2
+
+-- in this state it is such a branch, and behind it stands one on the pairs
+pub record IsCheckedBranch (i : Ins) (u : State) : Type 0 where
+  pub own : IsOwnBranch i
   pub checked : is_checked (Known i) (fetched_at u.memory u.ranges (next_pc u)) ≡ true
 
 -- ---- what goes wrong
@@ -60,7 +64,14 @@ other_way false i u = jumped u.regs (target i u.pc) u
 abbrev pub misled : Ins → State → State
 misled i u = other_way (holds i.kind (reg u i.rs1) (reg u i.rs2)) i u
 
--- ---- the promise
+-- what follows within `most` steps: a check fires; or it is the unchanged run again, since both ways lead to one place; or
+-- it traps, where no instruction of the input has its entry
+pub data IsTurned (most : ℕ) (v unchanged : State) : Type 0 where
+  turns : Fires most v → IsTurned most v unchanged
+  joins : run v most ≡ unchanged → IsTurned most v unchanged
+  strays : (k : ℕ) → k ≤ most → is_trapped (run v k).outcome ≡ true → IsTurned most v unchanged
+
+-- ---- the promises
 -- wherever the output's run without faults goes on at such an instruction, with the input as steady as `Covers` asks
 pub record FaultsFound (f g : Program) (reached : ℕ → Bool) (spans : List (ℕ × ℕ)) (bounds : Bounds) (first bound : ℕ) : Type 0 where
   pub results :
@@ -81,3 +92,10 @@ pub record FaultsFound (f g : Program) (reached : ℕ → Bool) (spans : List (�
   pub branches :
       (regs : List ℕ) (n : ℕ) (i : Ins) → AreStartRegs regs → (after_output g regs n).outcome ≡ Going → next (after_output g regs n) ≡ Known i
       → IsCheckedBranch i (after_output g regs n) → Covers f g reached first bound regs (n + 1 + 2) → Fires 2 (misled i (after_output g regs n))
+
+-- where entries test the signature, of each branch on x0 to x13 of the output's run without faults
+pub record BranchesFound (most : ℕ) (f g : Program) (reached : ℕ → Bool) (first bound : ℕ) : Type 0 where
+  pub found :
+      (regs : List ℕ) (n : ℕ) (i : Ins) → AreStartRegs regs → (after_output g regs n).outcome ≡ Going → next (after_output g regs n) ≡ Known i
+      → IsOwnBranch i → Covers f g reached first bound regs (n + 1 + most)
+      → IsTurned most (misled i (after_output g regs n)) (after_output g regs (n + 1 + most))
