@@ -7,7 +7,7 @@ use Rattle.weave_core.specs.World.{memory_of, start, zeros, Going, Fired, Addi, 
 use Rattle.machine.specs.Struck.{struck}
 use Rattle.qed_model.specs.Promise.InStep.{CaughtInStep, SettlesWithin}
 use Rattle.qed_model.specs.Promise.Changed.{changed_run}
-use Rattle.qed_model.specs.Promise.Faults.{FaultsFound, gives}
+use Rattle.qed_model.specs.Promise.Faults.{FaultsFound, BranchesFound, IsTurned, misled, gives}
 use Rattle.qed_model.specs.Promise.Closed.{is_closed, uses, guards_other, is_checked}
 use Rattle.qed_model.specs.Promise.Kept.{after_output, any_address}
 use Rattle.qed_model.proofs.Lemmas.{defaults, steady_any, any_reached, covers_steady}
@@ -15,9 +15,9 @@ use Rattle.weave_examples.proofs.KnownFiles.{loop}
 use Rattle.weave_examples.proofs.LoopExample.{loop_plan, loop_told, loop_blocks}
 use Rattle.tests.proofs.Lemmas.{zeros_start}
 use Rattle.weave_examples.proofs.ListedRuns.{found, run_is, state_of}
-use Rattle.weave_examples.proofs.LoopKept.{loop_words, loop_input, loop_output, loop_new_code, loop_stand, output_run, input_ended}
+use Rattle.weave_examples.proofs.LoopKept.{loop_words, loop_input, loop_output, loop_new_code, loop_stand, output_run, input_ended, none, none_reached, steady_none}
 use Rattle.weave_examples.proofs.ListedChanges.{changed_go, closed_there}
-use Rattle.lockstep.proofs.Lemmas.{tests_caught, instruction_faults_are_caught}
+use Rattle.lockstep.proofs.Lemmas.{tests_caught, tests_turned, instruction_faults_are_caught}
 
 loop_caught : CaughtInStep loop_input loop_output any_address [] loop_plan.bounds 32 120
 loop_caught = tests_caught loop defaults loop_blocks loop_words.0 loop_plan loop_words.1 loop_told any_address (any_reached loop defaults refl)
@@ -58,9 +58,9 @@ closed_fired : changed_run (start loop_output zeros) (seven 73 ∷ []) 86 ≡ st
 unfolding execute jumped computed_value value holds struck
 closed_fired = changed_go loop_output 0x13000 loop_new_code loop_stand (seven 73) 72 13 (turn 7) 0x131a4 refl refl refl refl
 
--- ---- a wrong instruction: the test's first one gives 7, not 2
-loop_faults : FaultsFound loop_input loop_output any_address [] loop_plan.bounds 32 120
-loop_faults = instruction_faults_are_caught loop defaults loop_blocks loop_words.0 loop_plan loop_words.1 loop_told any_address (any_reached loop defaults refl)
+-- ---- a wrong instruction: the test's first one gives 7, not 2. The set of reached addresses is empty
+loop_faults : FaultsFound loop_input loop_output none [] loop_plan.bounds 32 120
+loop_faults = instruction_faults_are_caught loop defaults loop_blocks loop_words.0 loop_plan loop_words.1 loop_told none none_reached
 
 -- the output's registers in the first block, with numbers in x5 and x21
 abbrev first_turn : ℕ → ℕ → List ℕ
@@ -82,7 +82,7 @@ wrong_two = moved (set_reg 5 7 (after_output loop_output zeros 33).regs) (next_p
 two_settles : SettlesWithin [] 0 272 (run wrong_two) (λ k. after_output loop_output zeros (34 + k))
 two_settles =
     loop_faults.results zeros 33 (ins Addi 5 0 0 (pos 2)) wrong_two zeros_start (ap (λ s. s.outcome) before_two) two_next (record { writes = inl refl; some = omega arith; low = omega arith })
-    (gives 7 refl) (covers_steady loop_input loop_output any_address 32 120 zeros (34 + 272) ((steady_any loop_input (34 + 272)).1 (input_ended (34 + 272) (omega arith))))
+    (gives 7 refl) (covers_steady loop_input loop_output none 32 120 zeros (34 + 272) (steady_none (34 + 272) (omega arith)))
 
 -- the comparison of x5 fires seven steps later
 wrong_is : wrong_two ≡ state_of loop_output (first_turn 7 0) 0x1308c Going
@@ -91,3 +91,27 @@ wrong_is = ap (λ s. moved (set_reg 5 7 s.regs) (next_pc s) s) before_two
 two_fired : run wrong_two 7 ≡ state_of loop_output (first_turn 7 2) 0x130b4 Fired
 unfolding execute jumped computed_value value holds
 two_fired = ap (λ s. run s 7) wrong_is ∙ run_is (memory_of loop_output.segments) loop_output.ranges 0x13000 loop_new_code loop_stand 7 (state_of loop_output (first_turn 7 0) 0x1308c Going) refl refl refl
+
+-- ---- a wrong branch: that of the first turn is not taken
+loop_turned : BranchesFound 6 loop_input loop_output none 32 120
+loop_turned = tests_turned loop defaults loop_blocks loop_words.0 loop_plan loop_words.1 loop_told none none_reached
+
+-- it is next after 73 steps
+before_bne : after_output loop_output zeros 73 ≡ state_of loop_output (turn 1) 0x131a4 Going
+unfolding execute jumped computed_value value holds
+before_bne = output_run 73 refl
+
+bne_next : next (after_output loop_output zeros 73) ≡ Known (ins Bne 0 5 0 (pos 8))
+bne_next = ap next before_bne ∙ found (fetched_at (memory_of loop_output.segments) loop_output.ranges) 0x13000 loop_new_code 0x131a4 (ins Bne 0 5 0 (pos 8)) loop_stand refl
+
+-- all premises of the promise are met
+bne_turned : IsTurned 6 (misled (ins Bne 0 5 0 (pos 8)) (after_output loop_output zeros 73)) (after_output loop_output zeros 80)
+bne_turned =
+    loop_turned.found zeros 73 (ins Bne 0 5 0 (pos 8)) zeros_start (ap (λ s. s.outcome) before_bne) bne_next
+    (record { branch = refl; first = omega arith; second = omega arith; some = omega arith })
+    (covers_steady loop_input loop_output none 32 120 zeros 80 (steady_none 80 (omega arith)))
+
+-- the entry of 0x1000c fires with the fifth step
+bne_fired : run (misled (ins Bne 0 5 0 (pos 8)) (after_output loop_output zeros 73)) 5 ≡ state_of loop_output (set_reg 30 0x1000c (turn 1)) 0x131bc Fired
+unfolding execute jumped computed_value value holds
+bne_fired = ap (λ s. run (misled (ins Bne 0 5 0 (pos 8)) s) 5) before_bne ∙ run_is (memory_of loop_output.segments) loop_output.ranges 0x13000 loop_new_code loop_stand 5 (state_of loop_output (turn 1) 0x131a8 Going) refl refl refl

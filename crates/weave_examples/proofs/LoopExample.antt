@@ -7,7 +7,8 @@ use Rattle.machine.specs.Table.{Addi, Bne, Ecall, Ins, ins, ins_of, decode_of}
 use Rattle.machine.specs.Cells.{number_among}
 use Rattle.tests.specs.Admission.Refusals.{IsAdmitted}
 use Rattle.qed_model.specs.Weave.Sequences.{Block, Falls, Stops}
-use Rattle.qed_model.specs.Weave.Blocks.{AreBlocks}
+use Rattle.machine.specs.Members.{Every}
+use Rattle.qed_model.specs.Weave.Blocks.{AreBlocks, IsBlockOf}
 use Rattle.qed_model.specs.Weave.Woven.{compared, IsToldOf}
 use Rattle.qed_model.proofs.ExampleCode as code
 use Rattle.qed_model.proofs.ExampleBlocks as made
@@ -49,15 +50,17 @@ loop_blocks =
     ∷ record { start = 0x1000c; body = [] ∷ []; end = Stops ecall; reached = false }
     ∷ []
 
+pub loop_each : (sweep : Bool) → Every (IsBlockOf loop (options sweep)) loop_blocks
+loop_each sweep = (
+  inl (made.falling loop 0x10000 loop_code loop_known (options sweep) refl refl [] ((two ∷ []) ∷ []) less (bne ∷ ecall ∷ []) refl refl refl),
+  (
+    inl (made.stopping loop 0x10000 loop_code loop_known (options sweep) refl refl (two ∷ []) ((less ∷ []) ∷ []) bne (ecall ∷ []) refl refl refl),
+    (inl (made.stopping loop 0x10000 loop_code loop_known (options sweep) refl refl (two ∷ less ∷ bne ∷ []) [] ecall [] refl refl refl), tt),
+  ),
+)
+
 pub loop_are : (sweep : Bool) → AreBlocks loop (options sweep) loop_blocks
-loop_are sweep =
-    made.are_blocks loop 0x10000 loop_code loop_known (options sweep) refl refl loop_blocks refl refl refl (
-      inl (made.falling loop 0x10000 loop_code loop_known (options sweep) refl refl [] ((two ∷ []) ∷ []) less (bne ∷ ecall ∷ []) refl refl refl),
-      (
-        inl (made.stopping loop 0x10000 loop_code loop_known (options sweep) refl refl (two ∷ []) ((less ∷ []) ∷ []) bne (ecall ∷ []) refl refl refl),
-        (inl (made.stopping loop 0x10000 loop_code loop_known (options sweep) refl refl (two ∷ less ∷ bne ∷ []) [] ecall [] refl refl refl), tt),
-      ),
-    )
+loop_are sweep = made.are_blocks loop 0x10000 loop_code loop_known (options sweep) refl refl loop_blocks refl refl refl (loop_each sweep)
 
 -- ---- its plan
 abbrev pub loop_plan : Plan

@@ -1,6 +1,7 @@
 -- A known file, a test with a loop: the promise holds of it; its run and its output's are computed by the definitions.
-use Rattle.std.proofs.Common.{◌≡◌, inl, inr, ℕ, zero, suc, ◌+◌, ◌-◌, ◌<◌, ◌≤◌, Bool, true, false, List, [], ◌∷◌, Some, refl, sym, ap, ◌∙◌, arith}
+use Rattle.std.proofs.Common.{◌≡◌, inl, inr, ⊎_elim, ℕ, zero, suc, ◌+◌, ◌-◌, ◌<◌, ◌≤◌, Bool, true, false, List, [], ◌∷◌, Some, refl, sym, ap, ◌∙◌, arith}
 use Rattle.std.specs.Prelude.{pos, neg_ℤ, replicate}
+use Rattle.std.proofs.lemmas.Bool.{cases_lt}
 use Rattle.rv_isa.specs.declared.class.Class.TheVariants as class
 use Rattle.machine.specs.Table.{Ecall}
 use Rattle.tests.specs.Admission.Reached.{AreReached}
@@ -84,11 +85,13 @@ output_goes_on = ap (λ s. s.outcome) (output_run 116 refl)
 
 -- ---- the promises at work
 -- the input stays as it ended
-pub input_ended : (n : ℕ) → 6 ≤ n → NotTrapped (after_input loop_input n)
-input_ended n l =
+input_stays : (n : ℕ) → 6 ≤ n → after_input loop_input n ≡ state_of loop_input zeros 0x1000c Ended
+input_stays n l =
     let sum : 6 + (n - 6) ≡ n = omega (arith, l) in
-    let stays : after_input loop_input n ≡ after_input loop_input 6 = ap (after_input loop_input) (sym sum) ∙ run-more (start loop_input zeros) 6 (n - 6) ∙ run-ended (n - 6) (after_input loop_input 6) (ap (λ s. s.outcome) input_end) in
-    ap (λ s. is_trapped s.outcome) (stays ∙ input_end)
+    ap (after_input loop_input) (sym sum) ∙ run-more (start loop_input zeros) 6 (n - 6) ∙ run-ended (n - 6) (after_input loop_input 6) (ap (λ s. s.outcome) input_end) ∙ input_end
+
+pub input_ended : (n : ℕ) → 6 ≤ n → NotTrapped (after_input loop_input n)
+input_ended n l = ap (λ s. is_trapped s.outcome) (input_stays n l)
 
 -- after at most 872 steps, the output has ended with what the input has at its end
 kept_with :
@@ -113,8 +116,11 @@ landed_wrong =
     loop_landed.fires zeros 30 0x10000 0x1000c 0x13078 0x131b0 zeros_start (inr ((steady_any loop_input 30).1 (input_ended 30 (omega arith)))) (inl (refl, refl)) (inr (inr (inl (refl, refl)))) (λ e. absurd (omega (arith, e))) at_entry.0 at_entry.1
 
 -- ---- with an empty set of reached addresses: the input makes no indirect jump
-abbrev none : ℕ → Bool
+abbrev pub none : ℕ → Bool
 none a = false
+
+ended_going : Ended ≡ Going → ⊥
+ended_going e = absurd (cc)
 
 no_jump : (s : State) (i : Ins) → next s ≡ Known i → (class_of i.kind ≡ class.JumpReg → ⊥) → LeadsToReached none s
 no_jump s i here other = λ j going there jumps.
@@ -142,11 +148,14 @@ steps_lead (suc (suc (suc (suc zero)))) l = at_step 4 0 0x10008 (ins Bne 0 5 0 (
 steps_lead (suc (suc (suc (suc (suc zero))))) l = at_step 5 0 0x1000c (ins Ecall 0 0 0 (pos 0)) (input_run 5 refl) refl (λ e. absurd (cc))
 steps_lead (suc (suc (suc (suc (suc (suc k)))))) l = absurd (omega (arith, l))
 
-steady_none : Steady loop_input none 6
-steady_none = record { no_trap = input_ended 6 (omega arith); leads = steps_lead }
+-- nor behind its end
+pub steady_none : (n : ℕ) → 6 ≤ n → Steady loop_input none n
+steady_none n l = record { no_trap = input_ended n l; leads = λ k h. ⊎_elim (λ early. steps_lead k early) (λ late. ended k late) (cases_lt k 6) } where
+  ended : (k : ℕ) → 6 ≤ k → LeadsToReached none (after_input loop_input k)
+  ended k late i going = absurd (ended_going (sym (ap (λ s. s.outcome) (input_stays k late)) ∙ going))
 
-none_reached : AreReached loop defaults none
+pub none_reached : AreReached loop defaults none
 none_reached e a t = absurd (cc)
 
 none_kept : (m : ℕ) × (m ≤ 872) × Halves loop_input (after_input loop_input 6) (after_output loop_output zeros m) × ((after_output loop_output zeros m).outcome ≡ Ended)
-none_kept = kept_with none none_reached steady_none
+none_kept = kept_with none none_reached (steady_none 6 (omega arith))
