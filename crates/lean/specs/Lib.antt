@@ -1,5 +1,6 @@
 pub mod Ticked
 pub mod Strayed
+pub mod Undisturbed
 pub mod Woven
 pub mod Tests
 pub mod Leaves

@@ -18,13 +18,14 @@ use Rattle.qed_model.specs.Weave.Blocks.{AreBlocks, Options}
 use Rattle.qed_model.specs.Weave.OutputFile.{file_of}
 use Rattle.qed_model.specs.Weave.Placed.{Decode, sum_of_sizes, rows_from, placed}
 use Rattle.qed_model.specs.Weave.SoundOptions.{AreSoundOptions}
-use Rattle.tests.specs.Admission.Places.{image_of, half_of, code_place}
+use Rattle.tests.specs.Admission.Places.{base_of, image_of, half_of, code_place}
 use Rattle.qed_model.specs.Weave.Sequences.{Block}
 use Rattle.qed_model.specs.Weave.LeanCode.{lean_items}
 use Rattle.qed_model.specs.Weave.LeanBounds.{lean_bounds}
 use Rattle.weave_core.specs.Leaving.{sweep_cost}
 use Rattle.qed_model.specs.Promise.Faults.{FaultsFound}
 use Rattle.lean.specs.Strayed.{Strayed, Displaced, Adrift, code_in, entry_in}
+use Rattle.lean.specs.Undisturbed.{Undisturbed, undisturbed_piece, undisturbed_ends}
 
 -- ---- the test
 -- the file is admitted, with sound options of the lean form, and these are its blocks
@@ -112,6 +113,14 @@ LeanTestsAdrift =
     (f : ElfFile) (o : Options) (every : ℕ) (blocks : List Block) (words : List ℕ) → IsLeanTest f o every blocks words
     → Adrift (loaded_file (file_read (lean_file f o every blocks words))) (code_in f o every blocks) (half_of o.half (image_of f))
     (entry_in f o every blocks) blocks
+
+-- the duplicate half does not reach the original half
+abbrev pub LeanTestsUndisturbed : Type 0
+LeanTestsUndisturbed =
+    (f : ElfFile) (o : Options) (every : ℕ) (blocks : List Block) (words : List ℕ)
+    → IsLeanTest f o every blocks words → (reached : ℕ → Bool) → AreReached f o reached
+    → Undisturbed (loaded_file f) (loaded_file (file_read (lean_file f o every blocks words))) reached (base_of (image_of f)) (half_of o.half (image_of f)) (entry_in f o every blocks) blocks
+    (undisturbed_piece o.land (length (data_ranges (image_of f))) o.round) (undisturbed_ends (data_ranges (image_of f)))
 
 -- with the sweep no change before it is silent at the end
 abbrev pub LeanTestsClean : Type 0

@@ -26,6 +26,7 @@ use Rattle.weave_core.specs.Blocks.{IsEntryOf, TableAt}
 use Rattle.weave_core.specs.Weave.{Weave}
 use Rattle.lean.specs.Strayed.{Strayed, Displaced, Adrift}
 use Rattle.lean.specs.Ticked.{is_ticked_at}
+use Rattle.lean.specs.Undisturbed.{Undisturbed, undisturbed_piece, undisturbed_ends}
 
 -- the most steps of the check, with the look-ups behind it
 abbrev pub check_steps : World → ℕ
@@ -164,6 +165,12 @@ LeanDisplaced = (f g : Program) (w : World) (l : Lean) (blocks : List Block) →
 -- and so is one with another number in x14
 abbrev pub LeanAdrift : Type 0
 LeanAdrift = (f g : Program) (w : World) (l : Lean) (blocks : List Block) → LeanPlan f g w l blocks → Adrift g (worded w.form w.base w.entry l (begins_at blocks)) w.distance w.entry blocks
+
+-- the duplicate half does not reach the original half
+abbrev pub LeanUndisturbed : Type 0
+LeanUndisturbed =
+    (f g : Program) (w : World) (l : Lean) (blocks : List Block) → LeanPlan f g w l blocks
+    → Undisturbed f g w.reached w.base w.distance w.entry blocks (undisturbed_piece l.land (length w.form.spans) w.form.round) (undisturbed_ends w.form.spans)
 
 -- with the sweep no change before it is silent at the end
 abbrev pub LeanClean : Type 0

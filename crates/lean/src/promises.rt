@@ -1,7 +1,7 @@
 //! What is promised of the lean form.
 ghost use Rattle.lean.specs.Tests.{LeanTestsHaveWords, LeanTestsWritable, LeanTestsKept, LeanTestsCaught, LeanTestsFaults};
-ghost use Rattle.lean.specs.Tests.{LeanTestsLanded, LeanTestsStrayed, LeanTestsDisplaced, LeanTestsAdrift, LeanTestsClean};
-ghost use Rattle.lean.specs.Woven.{LeanKept, LeanKeptInStep, LeanCaught, LeanLanded, LeanStrayed, LeanDisplaced, LeanAdrift, LeanClean};
+ghost use Rattle.lean.specs.Tests.{LeanTestsLanded, LeanTestsStrayed, LeanTestsDisplaced, LeanTestsAdrift, LeanTestsUndisturbed, LeanTestsClean};
+ghost use Rattle.lean.specs.Woven.{LeanKept, LeanKeptInStep, LeanCaught, LeanLanded, LeanStrayed, LeanDisplaced, LeanAdrift, LeanUndisturbed, LeanClean};
 
 /// A plan of the form keeps the input's values, with a bound on the steps of the output for each step of the input, and
 /// no check fires without changes.
@@ -40,6 +40,12 @@ pub fn lean_displaced()
 /// In a plan of the form a run with another number in x14 than the distance is over.
 pub fn lean_adrift()
     ensures { LeanAdrift }
+{}
+
+/// In a plan of the form the duplicate half does not reach the original half: from the entry of a block on, a run whose
+/// original half alone is the input's comes to the input's states, or is over.
+pub fn lean_undisturbed()
+    ensures { LeanUndisturbed }
 {}
 
 /// In a plan of the form with the sweep no change before it is silent at the end.
@@ -90,6 +96,11 @@ pub fn lean_tests_displaced()
 /// So is one with another number in x14 than the distance.
 pub fn lean_tests_adrift()
     ensures { LeanTestsAdrift }
+{}
+
+/// The duplicate half does not reach the original half.
+pub fn lean_tests_undisturbed()
+    ensures { LeanTestsUndisturbed }
 {}
 
 /// With the sweep no change before it is silent at the end.

@@ -1,7 +1,8 @@
 -- The laws that proofs of other crates cite.
 pub use Rattle.weave_core.proofs.Rows.{compute_walk, flagged_moved, halved_moved, halved_input, halved_original, halved_pair, halved_regs, halved_views, led_more, led_none, led_on, pair_value, pc_four, quiet_as, signed_other}
 pub use Rattle.weave_core.proofs.Sized.{sized_step, small_put, width_le}
-pub use Rattle.weave_core.proofs.Words.{all_small, compare_stands}
+pub use Rattle.weave_core.proofs.Words.{all_small, auipc_step, compare_stands, result_alike, step-fence}
+pub use Rattle.weave_core.proofs.Access.{beyond, load_granted, mapped_in, over_stored, raised_place, spared, store_granted}
 pub use Rattle.weave_core.proofs.Source.{has_front, not_trapped_front, not_trapped_le, source_run, steady_le, steady_rest}
 pub use Rattle.weave_core.proofs.Leaves.{Arrives, branch_passed, branch_taken, end_walk, equal_holds, go_most, go_walk, halved_gone, jump_step, jumped_to, links_as, no_code, own_signed, sign_walk, step-branch, step-break, step-end, step-illegal, step-jump}
 pub use Rattle.weave_core.proofs.Branch.{Branches, Passes, branch_step, branch_to, guard_pass, own_pair, pass_none, pass_on, skipped, skipped_grain}

@@ -14,7 +14,7 @@ use Rattle.weave_core.specs.Kinds.{originals}
 use Rattle.weave_core.specs.Lock.{ComparesFrom}
 use Rattle.weave_core.specs.Rows.{At}
 use Rattle.weave_core.specs.WeaveLaws.{GoesTo, Stands, Visits}
-use Rattle.weave_core.proofs.Lemmas.{own_pair, guards_pass, visit_more, addi_value, add_result, sub_result, tabled, word, table_word, table_load, find, found, entry_leap, halved_regs, halved_moved, Sets, writes, writes_long, writes_out, halved_writes, sets_on, sets_compute, sets_equal, visit_row, visit_later, words_within, word_low, all_small, compare_stands}
+use Rattle.weave_core.proofs.Lemmas.{own_pair, guards_pass, visit_more, addi_value, add_result, sub_result, Tabled, tabled, word, table_word, table_load, find, found, entry_leap, halved_regs, halved_moved, Sets, writes, writes_long, writes_out, halved_writes, sets_on, sets_compute, sets_equal, visit_row, visit_later, words_within, word_low, all_small, compare_stands}
 use Rattle.lockstep.proofs.Lemmas.{word_below}
 use Rattle.qed_model.specs.Promise.Changed.{IsDataWord}
 use Rattle.lean.specs.Ticked.{with_count}
@@ -24,7 +24,7 @@ use Rattle.lean.proofs.Weave.Turn.{lui_value}
 
 -- ---- what the words give
 -- what SLLI by 12 gives
-slli_value : (u : State) (r a x z : ℕ) → reg u a ≡ x → x * 2 ^ 12 % 2 ^ 64 ≡ z → result Slli (ins Slli r a 0 (pos 12)) u ≡ z
+pub slli_value : (u : State) (r a x z : ℕ) → reg u a ≡ x → x * 2 ^ 12 % 2 ^ 64 ≡ z → result Slli (ins Slli r a 0 (pos 12)) u ≡ z
 unfolding computed_value value
 slli_value u r a x z e g = rw e g
 
@@ -34,38 +34,25 @@ unfolding computed_value value
 srli_value u r a x z e g = rw e g
 
 -- ---- the look-ups
-module _ (w : World) (x t : State) (a : ℕ) (tb : TableAt w a) (o : Over w.code x) (h : Twice w x t t) where
+module _ (w : World) (x : State) (a : ℕ) (tb : TableAt w a) (o : Over w.code x) (tab : Tabled w x) where
   abbrev d : ℕ
   d = w.distance
 
   -- what the second one writes
-  abbrev again : List (ℕ × ℕ)
-  again = (31, 2 * d) ∷ (31, a + 2 * d) ∷ (14, word w x a tb o (tabled w x t t h)) ∷ (31, w.entry a) ∷ (14, d) ∷ []
-
-  -- at last x14 is the distance again
-  again_halved : (p : ℕ) → Twice w (moved (writes again x.regs) p x) t t
-  again_halved p = halved_regs w x t t (writes again x.regs) p (writes_long again x.regs ∙ h.output.regs) low high h where
-    low : (q : ℕ) → q ≤ 14 → slice_index (writes again x.regs) q ≡ reg x q
-    low q l =
-        ⊎_elim
-        (λ e. ap (slice_index (writes again x.regs)) e ∙ read_back again x.regs 14 h.output.regs refl ∙ sym h.distance ∙ ap (reg x) (sym e))
-        (λ ne. writes_out again x.regs q (λ e. absurd (omega (arith, l, e)), (λ e. absurd (omega (arith, l, e)), (ne, (λ e. absurd (omega (arith, l, e)), (ne, tt))))))
-        (cases_eq q 14)
-
-    high : (q : ℕ) → 1 ≤ q → q ≤ LAST_ORIGINAL → slice_index (writes again x.regs) (q + PAIR_DISTANCE) ≡ reg x (q + PAIR_DISTANCE)
-    high q one l = writes_out again x.regs (q + PAIR_DISTANCE) (λ e. absurd (omega (arith, l, e)), (λ e. absurd (omega (arith, l, e)), (λ e. absurd (omega (arith, e)), (λ e. absurd (omega (arith, l, e)), (λ e. absurd (omega (arith, e)), tt)))))
+  abbrev pub again : List (ℕ × ℕ)
+  again = (31, 2 * d) ∷ (31, a + 2 * d) ∷ (14, word w x a tb o tab) ∷ (31, w.entry a) ∷ (14, d) ∷ []
 
   -- the JALR behind it
-  abbrev leap : List Item
+  abbrev pub leap : List Item
   leap = Plain (ins Jalr 0 TEMPORARY 0 (pos 0)) ∷ []
 
   -- all but that word
-  again_set : reg x SIGNATURE ≡ a → reg x TEMPORARY ≡ w.entry a → Reads w.form.far w.code w.entry x.pc (look_again d) → Sets w x 6 leap (writes again x.regs)
+  pub again_set : reg x SIGNATURE ≡ a → reg x TEMPORARY ≡ w.entry a → Reads w.form.far w.code w.entry x.pc (look_again d) → Sets w x 6 leap (writes again x.regs)
   again_set sign at30 r =
       let l = x.regs in
-      let long = h.output.regs in
-      let wd = word w x a tb o (tabled w x t t h) in
-      let there = table_word w x a tb o (tabled w x t t h) in
+      let long = tab.output.regs in
+      let wd = word w x a tb o tab in
+      let there = table_word w x a tb o tab in
       let e1 : List (ℕ × ℕ) = (31, 2 * d) ∷ [] in
       let e2 : List (ℕ × ℕ) = (31, 2 * d) ∷ (31, a + 2 * d) ∷ [] in
       let e3 : List (ℕ × ℕ) = (31, 2 * d) ∷ (31, a + 2 * d) ∷ (14, wd) ∷ [] in
@@ -76,15 +63,32 @@ module _ (w : World) (x t : State) (a : ℕ) (tb : TableAt w a) (o : Over w.code
       let tail2 = Plain (ins Lw DISTANCE SPARE 0 (pos 0)) ∷ tail3 in
       let tail1 = Plain (ins Add SPARE SPARE SIGNATURE (pos 0)) ∷ tail2 in
       let end = writes again l in
-      sets_on w x 1 5 tail1 leap (writes e1 l) end (sets_compute w x (ins Add SPARE DISTANCE DISTANCE (pos 0)) (2 * d) tail1 o r refl (λ e. absurd (cc)) (add_result x 31 14 14 d d (2 * d) h.distance h.distance (omega (arith, tb.low)))) (λ p1 k1.
+      sets_on w x 1 5 tail1 leap (writes e1 l) end (sets_compute w x (ins Add SPARE DISTANCE DISTANCE (pos 0)) (2 * d) tail1 o r refl (λ e. absurd (cc)) (add_result x 31 14 14 d d (2 * d) tab.distance tab.distance (omega (arith, tb.low)))) (λ p1 k1.
       sets_on w (moved (writes e1 l) p1 x) 1 4 tail2 leap (writes e2 l) end (sets_compute w (moved (writes e1 l) p1 x) (ins Add SPARE SPARE SIGNATURE (pos 0)) (a + 2 * d) tail2 (over_moved w.code x (writes e1 l) p1 o) k1 refl (λ e. absurd (cc)) (add_result (moved (writes e1 l) p1 x) 31 31 16 (2 * d) a (a + 2 * d) (read_back e1 l 31 long refl) (read_back e1 l 16 long refl ∙ sign) (omega (arith, tb.low)))) (λ p2 k2.
-      sets_on w (moved (writes e2 l) p2 x) 1 3 tail3 leap (writes e3 l) end (table_load w x a tb o (tabled w x t t h) 14 31 (writes e2 l) p2 tail3 (read_back e2 l 31 long refl) (λ e. absurd (omega arith)) k2) (λ p3 k3.
+      sets_on w (moved (writes e2 l) p2 x) 1 3 tail3 leap (writes e3 l) end (table_load w x a tb o tab 14 31 (writes e2 l) p2 tail3 (read_back e2 l 31 long refl) (λ e. absurd (omega arith)) k2) (λ p3 k3.
       sets_on w (moved (writes e3 l) p3 x) 1 2 tail4 leap (writes e4 l) end (sets_compute w (moved (writes e3 l) p3 x) (ins Add SPARE SPARE DISTANCE (pos 0)) (w.entry a) tail4 (over_moved w.code x (writes e3 l) p3 o) k3 refl (λ e. absurd (cc)) (add_result (moved (writes e3 l) p3 x) 31 31 14 (a + 2 * d) wd (w.entry a) (read_back e3 l 31 long refl) (read_back e3 l 14 long refl) (omega (arith, there)))) (λ p4 k4.
       sets_on w (moved (writes e4 l) p4 x) 1 1 tail5 leap end end (sets_compute w (moved (writes e4 l) p4 x) (ins Lui DISTANCE 0 0 (pos d)) d tail5 (over_moved w.code x (writes e4 l) p4 o) k4 refl (λ e. absurd (cc)) (lui_value (moved (writes e4 l) p4 x) 14 (pos d) ∙ small d (omega (arith, tb.low)))) (λ p5 k5.
       sets_equal w (moved end p5 x) 30 31 leap (over_moved w.code x end p5 o) k5 (read_back again l 30 long refl ∙ at30 ∙ sym (read_back again l 31 long refl)))))))
     where
       small : (n : ℕ) → n < 2 ^ 64 → n % 2 ^ 64 ≡ n
       small n h = omega (arith, h)
+
+module _ (w : World) (x t : State) (a : ℕ) (tb : TableAt w a) (o : Over w.code x) (h : Twice w x t t) where
+  abbrev written : List (ℕ × ℕ)
+  written = again w x a tb o (tabled w x t t h)
+
+  -- at last x14 is the distance again
+  again_halved : (p : ℕ) → Twice w (moved (writes written x.regs) p x) t t
+  again_halved p = halved_regs w x t t (writes written x.regs) p (writes_long written x.regs ∙ h.output.regs) low high h where
+    low : (q : ℕ) → q ≤ 14 → slice_index (writes written x.regs) q ≡ reg x q
+    low q l =
+        ⊎_elim
+        (λ e. ap (slice_index (writes written x.regs)) e ∙ read_back written x.regs 14 h.output.regs refl ∙ sym h.distance ∙ ap (reg x) (sym e))
+        (λ ne. writes_out written x.regs q (λ e. absurd (omega (arith, l, e)), (λ e. absurd (omega (arith, l, e)), (ne, (λ e. absurd (omega (arith, l, e)), (ne, tt))))))
+        (cases_eq q 14)
+
+    high : (q : ℕ) → 1 ≤ q → q ≤ LAST_ORIGINAL → slice_index (writes written x.regs) (q + PAIR_DISTANCE) ≡ reg x (q + PAIR_DISTANCE)
+    high q one l = writes_out written x.regs (q + PAIR_DISTANCE) (λ e. absurd (omega (arith, l, e)), (λ e. absurd (omega (arith, l, e)), (λ e. absurd (omega (arith, e)), (λ e. absurd (omega (arith, l, e)), (λ e. absurd (omega (arith, e)), tt)))))
 
   -- where a look-up leads: to the entry, with x15 and x16 as they were
   abbrev Found : (ℕ → Bool) → ℕ → Type 0
@@ -94,10 +98,10 @@ module _ (w : World) (x t : State) (a : ℕ) (tb : TableAt w a) (o : Over w.code
   pub again_there :
       (leader : ℕ → Bool) → IsEntryOf w a → leader a ≡ true → t.pc ≡ a → reg x SIGNATURE ≡ a → reg x TEMPORARY ≡ w.entry a → Reads w.form.far w.code w.entry x.pc (look_again w.distance) → Found leader 7
   again_there leader b leads here sign at30 r =
-      let s = again_set sign at30 r in
-      let l = writes again x.regs in
+      let s = again_set w x a tb o (tabled w x t t h) sign at30 r in
+      let l = writes written x.regs in
       let y = moved l s.pc x in
-      let last = entry_leap w y a [] b (read_back again x.regs 30 h.output.regs refl ∙ at30) (over_moved w.code x l s.pc o) s.reads in
+      let last = entry_leap w y a [] b (read_back written x.regs 30 h.output.regs refl ∙ at30) (over_moved w.code x l s.pc o) s.reads in
       record {
         steps = 7;
         to = moved l (w.entry a) x;
@@ -106,8 +110,8 @@ module _ (w : World) (x t : State) (a : ℕ) (tb : TableAt w a) (o : Over w.code
         walk = walk_on (Quiet w) x y _ 6 1 s.walk last;
         is = (
           record { over = over_moved w.code x l (w.entry a) o; halved = again_halved (w.entry a); pc = ap w.entry (sym here); leads = ap leader here ∙ leads },
-          read_back again x.regs 16 h.output.regs refl,
-          read_back again x.regs 15 h.output.regs refl,
+          read_back written x.regs 16 h.output.regs refl,
+          read_back written x.regs 15 h.output.regs refl,
         );
       }
 

@@ -29,7 +29,7 @@ small_first [] h r = h r
 small_first (x ∷ xs) h zero = omega arith
 small_first (x ∷ xs) h (suc r) = h (suc r)
 
-sized_run : (n : ℕ) (u : State) → Sized u → Sized (run u n)
+pub sized_run : (n : ℕ) (u : State) → Sized u → Sized (run u n)
 unfolding run
 sized_run zero u z = z
 sized_run (suc n) u z = sized_run n (step u) (sized_step u z)

@@ -15,7 +15,7 @@ use Rattle.qed_model.specs.Weave.LeanCode.{Lean, worded, fall_to, leads_as, body
 use Rattle.qed_model.specs.Weave.Sequences.{Reads, End, Falls, Stops, Block, body_length, before_end, compare, visit, guard, links, check_sign, CURSOR, SIGNATURE, TEMPORARY, DISTANCE}
 use Rattle.machine.specs.Members.{Among}
 use Rattle.machine.specs.Table.{ins, Addi, Andi, Beq}
-use Rattle.weave_core.specs.World.{World, Item, Plain, Program, AreStartRegs, State, reg, moved, run, target, Class, class_of, Ins}
+use Rattle.weave_core.specs.World.{World, Item, Plain, Program, AreStartRegs, wrapped, State, reg, moved, run, target, Class, class_of, Ins}
 use Rattle.weave_core.specs.Blocks.{EndStands, Leaves}
 use Rattle.weave_core.specs.Weave.{Weave}
 use Rattle.lean.specs.Strayed.{with_distance, HasCount, Displaced, IsInBlock, Stopped, Adrift, displaced_steps, displaced_inside}
@@ -30,7 +30,7 @@ use Rattle.lean.proofs.Weave.PieceCosts.{pieces_cost}
 use Rattle.lean.proofs.Weave.Plan.{BlockAt}
 use Rattle.lean.proofs.Weave.Promise.{block_at}
 use Rattle.lean.proofs.Weave.Inside.{small_at, few, from_inside, drifting_at}
-use Rattle.lean.proofs.Weave.Tick.{ticked, pass_row, call_row, jump_at}
+use Rattle.lean.proofs.Weave.Tick.{count_sum, low_bit, high_bit, ticked, pass_row, call_row, jump_at}
 use Rattle.lean.proofs.Weave.Sign.{fires}
 
 -- ---- what a leave costs at least where its test fires
@@ -172,10 +172,16 @@ module _ (f g : Program) (w : World) (l : Lean) (blocks : List Block) (p : LeanP
       over : CodeOver w.code u
       over = over_of w (x, with_count k n, q) u su
 
+      abbrev now : ℕ
+      now = with_count k (n + l.most b.start)
+
+      sum : (reg u CURSOR + wrapped (pos (l.most b.start))) % 2 ^ 64 ≡ with_count k (n + l.most b.start)
+      sum = count_sum (reg u CURSOR) k n (l.most b.start) su.cursor high few small
+
       passed : before + 3 ≤ entry_steps l.land → n + l.most b.start < 2048 → Reads false w.code w.entry u.pc (ticks_to ++ body) → l.ticks b.start ≡ true → Behind
       passed le lt r is =
-          let o = pass_row w u (l.most b.start) n k over su.standing.flagged.regs su.standing.flagged.zero_reg su.cursor high few small land b.start body (distance_between (u.pc + jump_at land) l.check) (omega (arith, lt)) (to_far f g w l blocks p true 0 0 u.pc (ticks_to ++ body) r) in
-          let ws = ticked w u (l.most b.start) n k over su.standing.flagged.regs su.standing.flagged.zero_reg su.cursor high few small in
+          let o = pass_row w u (l.most b.start) now over su.standing.flagged.regs su.standing.flagged.zero_reg sum land b.start body (distance_between (u.pc + jump_at land) l.check) (low_bit k (n + l.most b.start) (omega (arith, lt))) (to_far f g w l blocks p true 0 0 u.pc (ticks_to ++ body) r) in
+          let ws = ticked w u (l.most b.start) now over su.standing.flagged.regs su.standing.flagged.zero_reg sum in
           record {
             steps = before + 3;
             within = le;
@@ -206,7 +212,7 @@ module _ (f g : Program) (w : World) (l : Lean) (blocks : List Block) (p : LeanP
       checked ge r =
           let first = ins Beq 0 SIGNATURE TEMPORARY (pos 8) in
           let near = w.low l.check first p.sound.check.0 in
-          let c = call_row w u (l.most b.start) n k over su.standing.flagged.regs su.standing.flagged.zero_reg su.cursor high few small land b.start l.check body ge here.good.low named (omega (arith, near)) (w.grain l.check first p.sound.check.0) (to_far f g w l blocks p true 0 0 u.pc (ticks_to ++ body) r) in
+          let c = call_row w u (l.most b.start) now over su.standing.flagged.regs su.standing.flagged.zero_reg sum land b.start l.check body (high_bit k (n + l.most b.start) ge (omega (arith, high, small))) here.good.low named (omega (arith, near)) (w.grain l.check first p.sound.check.0) (to_far f g w l blocks p true 0 0 u.pc (ticks_to ++ body) r) in
           let z = moved (writes c.effects u.regs) l.check u in
           let oz = over_moved w.code u (writes c.effects u.regs) l.check over in
           let long = writes_long c.effects u.regs ∙ su.standing.flagged.regs in

@@ -21,7 +21,7 @@ use Rattle.weave_core.specs.WeaveLaws.{PiecesAt}
 use Rattle.lean.specs.Woven.{LeanPlan, lean_weave_of}
 use Rattle.lean.proofs.Weave.Chain.{items, effects, read_back, chain, cost_append}
 use Rattle.lean.proofs.Weave.Costs.{guard_most, way_most}
-use Rattle.lean.proofs.Weave.Drift.{Drifts, comes_none, drifts_append, drifts_guards, drifts_links, drifts_piece, drifts_distance, drifts_way, Comes, comes_over, comes_one, comes_more, comes_behind, comes_on, Drifting, Before, over_of, drift, step-class, Over as CodeOver, over_moved, known_at, difference, WeaveIn, go_walk, go_most, jumped_to, branch_passed, step-break, pc_four, sets_compute, writes, writes_out, writes_long, standing_step, standing_run}
+use Rattle.lean.proofs.Weave.Drift.{Drifts, comes_none, is_other, keep_guards, keep_way, drifts_append, drifts_links, drifts_piece, drifts_distance, Comes, comes_over, comes_one, comes_more, comes_behind, comes_on, Drifting, Before, over_of, drift, step-class, Over as CodeOver, over_moved, known_at, difference, WeaveIn, go_walk, go_most, jumped_to, branch_passed, step-break, pc_four, sets_compute, writes, writes_out, writes_long, standing_step, standing_run}
 use Rattle.lean.proofs.Weave.Leap.{goal, signed, turn_ops, turn_gives, aim_ops, aim_gives}
 use Rattle.lean.proofs.Weave.Leave.{far_enough, beyond_taken, guard_cost}
 use Rattle.lean.proofs.Weave.Promise.{woven}
@@ -212,7 +212,7 @@ module _ (f g : Program) (w : World) (l : Lean) (blocks : List Block) (p : LeanP
     end_law u rest k r =
         let d = l.distance in
         let more = check_sign a ++ rest in
-        over_on (Before w (x, c, q) (check_distance d ++ more)) u ORIGINALS 5 (drift w compare (drifts_guards originals) (x, c, q) u (check_distance d ++ more) k r)
+        over_on (Before w (x, c, q) (check_distance d ++ more)) u ORIGINALS 5 (drift w compare (keep_guards is_other true originals) (x, c, q) u (check_distance d ++ more) k r)
         (λ z b.
         ⊎_elim
         (λ n.
@@ -249,13 +249,13 @@ module _ (f g : Program) (w : World) (l : Lean) (blocks : List Block) (p : LeanP
           on_taken y h =
               let more = goes a t ++ other_way i n in
               let le = le-max_left (cost (goes a t)) (cost (turn a n ++ fall_to leader n)) in
-              comes_on (Before w (x, c, q) more) (Lost on) y 1 (ways_most t n) (comes_more (Before w (x, c, q) more) y (cost (check_way i.kind i)) 1 (way_most i.kind i) (drift w (check_way i.kind i) (drifts_way i.kind i b) (x, c, q) y more h.0 h.1)) (λ z q. comes_more (Lost on) z (cost (goes a t)) (ways_most t n) le (goes_law on t z (other_way i n) here q.0 q.1))
+              comes_on (Before w (x, c, q) more) (Lost on) y 1 (ways_most t n) (comes_more (Before w (x, c, q) more) y (cost (check_way i.kind i)) 1 (way_most i.kind i) (drift w (check_way i.kind i) (keep_way is_other true i.kind i b) (x, c, q) y more h.0 h.1)) (λ z q. comes_more (Lost on) z (cost (goes a t)) (ways_most t n) le (goes_law on t z (other_way i n) here q.0 q.1))
 
           on_other : (y : State) → Before w (x, c, q) (other_way i n) y → Comes (Lost on) y (1 + (ways_most t n))
           on_other y h =
               let more = turn a n ++ fall_to leader n in
               let le = le-max_right (cost (goes a t)) (cost (turn a n ++ fall_to leader n)) in
-              comes_on (Before w (x, c, q) more) (Lost on) y 1 (ways_most t n) (comes_more (Before w (x, c, q) more) y (cost (check_way (opposite i.kind) i)) 1 (way_most (opposite i.kind) i) (drift w (check_way (opposite i.kind) i) (drifts_way (opposite i.kind) i (opposite_is i.kind b).0) (x, c, q) y more h.0 h.1)) (λ z q. comes_more (Lost on) z (cost (turn a n ++ fall_to leader n)) (ways_most t n) le (falls_law on n z there_on q.0 q.1))
+              comes_on (Before w (x, c, q) more) (Lost on) y 1 (ways_most t n) (comes_more (Before w (x, c, q) more) y (cost (check_way (opposite i.kind) i)) 1 (way_most (opposite i.kind) i) (drift w (check_way (opposite i.kind) i) (keep_way is_other true (opposite i.kind) i (opposite_is i.kind b).0) (x, c, q) y more h.0 h.1)) (λ z q. comes_more (Lost on) z (cost (turn a n ++ fall_to leader n)) (ways_most t n) le (falls_law on n z there_on q.0 q.1))
 
           there : (to : ℕ) → step u ≡ moved u.regs to u → Drifting w (x, c, q) (step u) × ((step u).pc ≡ to)
           there to e = (record { going = ap (λ z. z.outcome) e ∙ k.going; standing = standing_step w.code w.output w.output_fixed u k.standing; sign = ap (λ z. reg z SIGNATURE) e ∙ k.sign; cursor = ap (λ z. reg z CURSOR) e ∙ k.cursor; distance = ap (λ z. reg z DISTANCE) e ∙ k.distance }, ap (λ z. z.pc) e)

@@ -23,7 +23,7 @@ use Rattle.lean.proofs.Weave.Check.{Back, check_row}
 use Rattle.lean.proofs.Weave.Held.{Ticked, ticked_of, ticked_is, ticked_same}
 use Rattle.lean.proofs.Weave.Piece.{piece_part}
 use Rattle.lean.proofs.Weave.Sign.{passes as sign_passes}
-use Rattle.lean.proofs.Weave.Tick.{shifted, jump_at, pass_row, call_row}
+use Rattle.lean.proofs.Weave.Tick.{shifted, jump_at, count_sum, low_bit, high_bit, pass_row, call_row}
 
 module _ (w : World) (l : Lean) (leader : ℕ → Bool) (x : LeanIn w l leader) where
   abbrev v : Weave
@@ -132,7 +132,7 @@ module _ (w : World) (l : Lean) (leader : ℕ → Bool) (x : LeanIn w l leader) 
       let x0 = at_tick u s rest a e in
       let v = x0.to in
       let long = x0.halved.output.regs in
-      let p = pass_row w v most t.count t.offset x0.over long x0.halved.output.zero_reg (x0.fifteen ∙ t.fifteen) t.most t.few (omega (arith, le)) l.land a rest (distance_between (v.pc + jump_at l.land) l.check) le (at_its v.pc a (v.pc + jump_at l.land) rest has x0.reads) in
+      let p = pass_row w v most (with_count t.offset (t.count + most)) x0.over long x0.halved.output.zero_reg (count_sum (reg v CURSOR) t.offset t.count most (x0.fifteen ∙ t.fifteen) t.most t.few (omega (arith, le))) l.land a rest (distance_between (v.pc + jump_at l.land) l.check) (low_bit t.offset (t.count + most) le) (at_its v.pc a (v.pc + jump_at l.land) rest has x0.reads) in
       let c = with_count t.offset (t.count + most) in
       let ws : List (ℕ × ℕ) = (15, c) ∷ (31, shifted c) ∷ [] in
       let y = moved (writes ws v.regs) p.pc v in
@@ -183,7 +183,7 @@ module _ (w : World) (l : Lean) (leader : ℕ → Bool) (x : LeanIn w l leader) 
       let first = ins Beq 0 SIGNATURE TEMPORARY (pos 8) in
       let near = w.low l.check first x.check.0 in
       let sign = x0.sixteen ∙ t.sign in
-      let c = call_row w v most t.count t.offset x0.over long x0.halved.output.zero_reg (x0.fifteen ∙ t.fifteen) t.most t.few small l.land s.pc l.check rest ge e.low x0.named (omega (arith, near)) (w.grain l.check first x.check.0) (at_its v.pc s.pc (v.pc + jump_at l.land) rest has x0.reads) in
+      let c = call_row w v most (with_count t.offset (t.count + most)) x0.over long x0.halved.output.zero_reg (count_sum (reg v CURSOR) t.offset t.count most (x0.fifteen ∙ t.fifteen) t.most t.few small) l.land s.pc l.check rest (high_bit t.offset (t.count + most) ge (omega (arith, t.most, small))) e.low x0.named (omega (arith, near)) (w.grain l.check first x.check.0) (at_its v.pc s.pc (v.pc + jump_at l.land) rest has x0.reads) in
       let y = moved (writes c.effects v.regs) l.check v in
       let count : x0.steps + (3 + call_steps l.land) ≡ entry_steps l.land + call_steps l.land = omega (arith, x0.count) in (
         y,

@@ -27,7 +27,7 @@ use Rattle.weave_core.specs.Blocks.{IsEntryOf, TableAt}
 use Rattle.weave_core.specs.WeavePromise.{AllBlocksOf, OnlyCode}
 use Rattle.weave_core.proofs.Lemmas.{marked, rows_inputs, reads_front, place_low, AreItems, loaded_ranges, Ascend, code_distinct, rows_are, entry_or_stub, length-instructions, mark_behind, rows_behind, down, up, both_all, if_all, AllPieces, IsKnownBlock, InImage, admitted_image, test_writable}
 use Rattle.lockstep.proofs.Lemmas.{only_inside}
-use Rattle.lean.specs.Tests.{IsLeanTest, LeanTestsKept, LeanTestsCaught, LeanTestsFaults, LeanTestsLanded, LeanTestsStrayed, LeanTestsDisplaced, LeanTestsAdrift, LeanTestsClean, AreLeanBlocks, LeanTestsHaveWords, LeanTestsWritable}
+use Rattle.lean.specs.Tests.{IsLeanTest, LeanTestsKept, LeanTestsCaught, LeanTestsFaults, LeanTestsLanded, LeanTestsStrayed, LeanTestsDisplaced, LeanTestsAdrift, LeanTestsUndisturbed, LeanTestsClean, AreLeanBlocks, LeanTestsHaveWords, LeanTestsWritable}
 use Rattle.lean.specs.Woven.{LeanIn, LeanPlan, lean_weave_of}
 use Rattle.lean.proofs.Weave.Costs.{call_fits}
 use Rattle.lean.proofs.Weave.Ways.{reads_behind}
@@ -38,6 +38,7 @@ use Rattle.lean.proofs.Weave.Landed.{lean_landed}
 use Rattle.lean.proofs.Weave.Piece.{store_class}
 use Rattle.lean.proofs.Weave.Plan.{entry_grain}
 use Rattle.lean.proofs.Weave.Off.{lean_displaced, lean_adrift}
+use Rattle.lean.proofs.Weave.Undisturbed.{lean_undisturbed}
 use Rattle.lean.proofs.Weave.Strays.{lean_strayed}
 use Rattle.lean.proofs.Weave.Promise.{lean_in_step, lean_caught, lean_faults, lean_clean}
 use Rattle.lean.proofs.Weave.Unmarked.{unmarked_worded, entry_same, same_code, code_size}
@@ -420,6 +421,10 @@ tests_adrift f o every blocks words t =
     let reached : ℕ → Bool = λ a. false in
     let aims : AreReached f o (λ a. false) = λ e a h. absurd (false≢true h) in
     lean_adrift (input f o every blocks u words t) (output f o every blocks u words t) (w f o every blocks u words t reached aims) (lean_of f o every blocks) blocks (plan f o every blocks u words t reached aims)
+
+pub tests_undisturbed : LeanTestsUndisturbed
+tests_undisturbed f o every blocks words t reached aims =
+    lean_undisturbed (input f o every blocks t.cut words t) (output f o every blocks t.cut words t) (w f o every blocks t.cut words t reached aims) (lean_of f o every blocks) blocks (plan f o every blocks t.cut words t reached aims)
 
 pub tests_clean : LeanTestsClean
 tests_clean f o every blocks words t swept reached aims =

@@ -9,19 +9,19 @@ use Rattle.qed_model.specs.Weave.Sequences.{Reads, fired_check, CURSOR, SIGNATUR
 use Rattle.qed_model.specs.Weave.Lean.{tick}
 use Rattle.qed_model.specs.Weave.LeanBounds.{call_steps}
 use Rattle.machine.proofs.Lemmas.{Over, over_moved, known_at, Walk, walk_one, walk_on, difference}
-use Rattle.weave_core.specs.World.{World, Quiet, Item, Plain, Constant, holds, value}
+use Rattle.weave_core.specs.World.{World, Quiet, Item, Plain, Constant, holds, value, wrapped}
 use Rattle.weave_core.proofs.Lemmas.{addi_value, branch_taken, branch_passed, jumped_to, step-jump, quiet_as, AllTemps, Sets, sets_const, writes, writes_long}
 use Rattle.lean.specs.Ticked.{with_count}
 use Rattle.lean.proofs.Weave.Chain.{Op, plain, items, Gives, read_back, all_temps, chain, chain_pc}
 
 -- ---- the bit
 -- a number below 2^63 is not below 0
-low_holds : (x : ℕ) → x < 2 ^ 63 → holds Bge x 0 ≡ true
+pub low_holds : (x : ℕ) → x < 2 ^ 63 → holds Bge x 0 ≡ true
 unfolding holds
 low_holds x h = rw (lt-ltb x (2 ^ 63) h) (ap not (le-ltb x 0 (omega arith)))
 
 -- one with its highest bit is
-high_holds : (x : ℕ) → 2 ^ 63 ≤ x → holds Bge x 0 ≡ false
+pub high_holds : (x : ℕ) → 2 ^ 63 ≤ x → holds Bge x 0 ≡ false
 unfolding holds
 high_holds x h = rw (le-ltb x (2 ^ 63) h) refl
 
@@ -29,19 +29,19 @@ high_holds x h = rw (le-ltb x (2 ^ 63) h) refl
 abbrev pub shifted : ℕ → ℕ
 shifted v = v * 2 ^ 52 % 2 ^ 64
 
-low_bit : (k c : ℕ) → c ≤ 2047 → shifted (with_count k c) < 2 ^ 63
+pub low_bit : (k c : ℕ) → c ≤ 2047 → shifted (with_count k c) < 2 ^ 63
 low_bit k c h = omega (arith, h)
 
-high_bit : (k c : ℕ) → 2048 ≤ c → c < 4096 → 2 ^ 63 ≤ shifted (with_count k c)
+pub high_bit : (k c : ℕ) → 2048 ≤ c → c < 4096 → 2 ^ 63 ≤ shifted (with_count k c)
 high_bit k c h l = omega (arith, h, l)
 
 -- what SLLI by 52 gives
-slli_value : (u : State) (r a x z : ℕ) → reg u a ≡ x → x * 2 ^ 52 % 2 ^ 64 ≡ z → result Slli (ins Slli r a 0 (pos 52)) u ≡ z
+pub slli_value : (u : State) (r a x z : ℕ) → reg u a ≡ x → x * 2 ^ 52 % 2 ^ 64 ≡ z → result Slli (ins Slli r a 0 (pos 52)) u ≡ z
 unfolding computed_value value
 slli_value u r a x z e g = rw e g
 
 -- ---- the jump
-jal_walk :
+pub jal_walk :
     (w : World) (y : State) (to : ℕ) → Over w.code y → w.code y.pc ≡ Known (ins Jal 0 0 0 (distance_between y.pc to)) → to < 2 ^ 64 → to % 4 ≡ 0 → Walk (Quiet w) y 1 (moved y.regs to y)
 jal_walk w y to o k low grain =
     let j = ins Jal 0 0 0 (distance_between y.pc to) in
@@ -53,11 +53,12 @@ jal_walk w y to o k low grain =
 abbrev pub jump_at : Bool → ℕ
 jump_at land = cond land 12 20
 
--- ---- the row, where the count is n
-module _ (w : World) (u : State) (most n offset : ℕ) (o : Over w.code u) (long : length u.regs ≡ 32) (zero_reg : reg u 0 ≡ 0) (at : reg u CURSOR ≡ with_count offset n) (high : n ≤ 2047) (few : offset < 2 ^ 32) (small : most ≤ 2047) where
-  abbrev now : ℕ
-  now = with_count offset (n + most)
+-- what the tick leaves of a count
+pub count_sum : (x k n most : ℕ) → x ≡ with_count k n → n ≤ 2047 → k < 2 ^ 32 → most ≤ 2047 → (x + wrapped (pos most)) % 2 ^ 64 ≡ with_count k (n + most)
+count_sum x k n most e high few small = omega (arith, e, high, few, small)
 
+-- ---- the row, where the tick leaves a number in x15
+module _ (w : World) (u : State) (most now : ℕ) (o : Over w.code u) (long : length u.regs ≡ 32) (zero_reg : reg u 0 ≡ 0) (sum : (reg u CURSOR + wrapped (pos most)) % 2 ^ 64 ≡ now) where
   -- what is written before the branch
   abbrev pub ticked : List (ℕ × ℕ)
   ticked = (15, now) ∷ (31, shifted now) ∷ []
@@ -70,7 +71,7 @@ module _ (w : World) (u : State) (most n offset : ℕ) (o : Over w.code u) (long
       let e1 : List (ℕ × ℕ) = (15, now) ∷ [] in (
         refl,
         λ e. absurd (cc),
-        λ p. addi_value (moved u.regs p u) 15 15 (with_count offset n) now (pos most) at (omega (arith, high, few, small)),
+        λ p. addi_value (moved u.regs p u) 15 15 (reg u CURSOR) now (pos most) refl sum,
         (
           refl,
           λ e. absurd (cc),
@@ -100,13 +101,13 @@ module _ (w : World) (u : State) (most n offset : ℕ) (o : Over w.code u) (long
   test b e = ap (λ y. holds Bge (reg before SPARE) y) (read_back ticked u.regs 0 long refl ∙ zero_reg) ∙ ap (λ y. holds Bge y 0) (read_back ticked u.regs 31 long refl) ∙ e
 
   -- the count does not pass 2047
-  pub pass_row : (land : Bool) (a : ℕ) (rest : List Item) (d : ℤ) → n + most ≤ 2047 → Reads w.form.far w.code w.entry u.pc (tick land a most d ++ rest) → Sets w u 3 rest (writes ticked u.regs)
+  pub pass_row : (land : Bool) (a : ℕ) (rest : List Item) (d : ℤ) → shifted now < 2 ^ 63 → Reads w.form.far w.code w.entry u.pc (tick land a most d ++ rest) → Sets w u 3 rest (writes ticked u.regs)
   pass_row land a rest d le h = by land h where
     goes : (to : ℕ) → Walk (Quiet w) u 2 before → Walk (Quiet w) before 1 (moved (writes ticked u.regs) to u) → Reads w.form.far w.code w.entry to rest → Sets w u 3 rest (writes ticked u.regs)
     goes to a b r = record { pc = to; walk = walk_on (Quiet w) u before _ 2 1 a b; reads = r }
 
     taken : holds Bge (reg before SPARE) (reg before 0) ≡ true
-    taken = test true (low_holds (shifted now) (low_bit offset (n + most) le))
+    taken = test true (low_holds (shifted now) le)
 
     by : (b : Bool) → Reads w.form.far w.code w.entry u.pc (tick b a most d ++ rest) → Sets w u 3 rest (writes ticked u.regs)
     by true h =
@@ -130,12 +131,12 @@ module _ (w : World) (u : State) (most n offset : ℕ) (o : Over w.code u) (long
     pub temps : AllTemps effects
     pub walk : Walk (Quiet w) u (3 + call_steps land) (moved (writes effects u.regs) to u)
     pub fourteen : slice_index (writes effects u.regs) 14 ≡ reg u DISTANCE
-    pub fifteen : slice_index (writes effects u.regs) 15 ≡ with_count offset (n + most)
+    pub fifteen : slice_index (writes effects u.regs) 15 ≡ now
     pub sixteen : slice_index (writes effects u.regs) 16 ≡ reg u SIGNATURE
     pub thirty : slice_index (writes effects u.regs) 30 ≡ a
 
   pub call_row :
-      (land : Bool) (a to : ℕ) (rest : List Item) → 2048 ≤ n + most → a < 2 ^ 64 → (land ≡ true → reg u TEMPORARY ≡ a) → to < 2 ^ 64 → to % 4 ≡ 0
+      (land : Bool) (a to : ℕ) (rest : List Item) → 2 ^ 63 ≤ shifted now → a < 2 ^ 64 → (land ≡ true → reg u TEMPORARY ≡ a) → to < 2 ^ 64 → to % 4 ≡ 0
       → Reads w.form.far w.code w.entry u.pc (tick land a most (distance_between (u.pc + jump_at land) to) ++ rest) → Called land a to
   unfolding sets_const
   call_row land a to rest ge low named far grain h = by land named h where
@@ -147,7 +148,7 @@ module _ (w : World) (u : State) (most n offset : ℕ) (o : Over w.code u) (long
         absurd (cc)
 
     lacks : holds Bge (reg before SPARE) (reg before 0) ≡ false
-    lacks = test false (high_holds (shifted now) (high_bit offset (n + most) ge (omega (arith, high, small))))
+    lacks = test false (high_holds (shifted now) ge)
 
     by : (b : Bool) → (b ≡ true → reg u TEMPORARY ≡ a) → Reads w.form.far w.code w.entry u.pc (tick b a most (distance_between (u.pc + jump_at b) to) ++ rest) → Called b a to
     by true named h =

@@ -1,0 +1,52 @@
+-- The duplicate half does not reach the original half: from the entry of a block the original half alone has to be right.
+use Rattle.std.specs.Prelude.{◌≡◌, ◌↔◌, ℕ, ◌+◌, ◌*◌, ◌^◌, ◌<◌, ◌≤◌, ◌⊎◌, Bool, true, List, length}
+use Rattle.rv_isa.specs.declared.profile.TheConstants.{LAST_ORIGINAL, DISTANCE, SIGNATURE}
+use Rattle.machine.specs.declared.outcome.Outcome.TheVariants.{Going, Ended}
+use Rattle.machine.specs.Memory.{get, byte_at, flags_at}
+use Rattle.machine.specs.Program.{Program, memory_of}
+use Rattle.machine.specs.Step.{State, reg, run, fetched_at}
+use Rattle.qed_model.specs.Promise.Kept.{after_input, is_mapped, Halves, Steady}
+use Rattle.qed_model.specs.Weave.Blocks.{begins_at}
+use Rattle.qed_model.specs.Weave.LeanBounds.{entry_steps, call_steps}
+use Rattle.qed_model.specs.Weave.Sequences.{Block}
+use Rattle.tests.specs.Admission.DataRanges.{word_count}
+use Rattle.lean.specs.Strayed.{IsOver}
+
+-- The output's state u goes on at the entry of the block where the input's state s stands. x1 to x13 and the bytes that
+-- the input maps are those of s. x16 is its pc, and x14 the distance of the halves. Code, permissions and what stands
+-- behind both halves are those of the file. Nothing is asked of x15, of x17 to x31, nor of the duplicate half
+pub record HasOriginals (f g : Program) (base distance : ℕ) (entry : ℕ → ℕ) (s u : State) : Type 0 where
+  pub going : u.outcome ≡ Going
+  pub here : u.pc ≡ entry s.pc
+  pub originals : (r : ℕ) → 1 ≤ r → r ≤ LAST_ORIGINAL → reg u r ≡ reg s r
+  pub bytes : (q : ℕ) → is_mapped f q ≡ true → byte_at u.memory q ≡ byte_at s.memory q
+  pub sign : reg u SIGNATURE ≡ s.pc
+  pub distance_is : reg u DISTANCE ≡ distance
+  pub zero_reg : reg u 0 ≡ 0
+  pub count : length u.regs ≡ 32
+  pub code : (a : ℕ) → fetched_at u.memory u.ranges a ≡ fetched_at (memory_of g.segments) g.ranges a
+  pub flags : (q : ℕ) → flags_at u.memory q ≡ flags_at (memory_of g.segments) q
+  pub fixed : (q : ℕ) → base + 2 * distance ≤ q → q < 2 ^ 64 → get u.memory q ≡ get (memory_of g.segments) q
+
+-- within `most` steps a check has fired, a step has trapped, or the original half has the values of t; then u has ended
+-- exactly if t has
+pub record ComesTo (f : Program) (t u : State) (most : ℕ) : Type 0 where
+  pub steps : ℕ
+  pub within : steps ≤ most
+  pub is : IsOver (run u steps).outcome ⊎ (Halves f t (run u steps) × (((run u steps).outcome ≡ Ended) ↔ (t.outcome ≡ Ended)))
+
+-- the most steps for a step of the input and once more, by the option `land`, the data ranges and the words of a round: those
+-- of an entry, the check, the entry again, a period, and a leave
+abbrev pub undisturbed_piece : Bool → ℕ → ℕ → ℕ
+undisturbed_piece land ranges round = 2 * (entry_steps land + call_steps land) + (5 + 5 * ranges) * round + 2114
+
+-- and of the end of the test, by the data ranges
+abbrev pub undisturbed_ends : List (ℕ × ℕ) → ℕ
+undisturbed_ends spans = 33 + (2 * length spans + 8 * word_count spans)
+
+-- from such a state the run comes to each later state of the input, as long as the input is steady, or is over. In steps,
+-- `bound` is for each step of the input and once more, and `ends` for the end of the test
+pub record Undisturbed (f g : Program) (reached : ℕ → Bool) (base distance : ℕ) (entry : ℕ → ℕ) (blocks : List Block) (bound ends : ℕ) : Type 0 where
+  pub follows :
+      (k n : ℕ) (u : State) → (after_input f k).outcome ≡ Going → begins_at blocks (after_input f k).pc ≡ true → HasOriginals f g base distance entry (after_input f k) u
+      → Steady f reached (k + n) → ComesTo f (after_input f (k + n)) u ((n + 1) * bound + ends)
