@@ -12,9 +12,10 @@ use Rattle.qed_model.specs.Weave.Sequences.{Block}
 use Rattle.tests.specs.Admission.DataRanges.{word_count}
 use Rattle.lean.specs.Strayed.{IsOver}
 
--- The output's state u goes on at the entry of the block where the input's state s stands. x1 to x13 and the bytes that
--- the input maps are those of s. x16 is its pc, and x14 the distance of the halves. Code, permissions and what stands
--- behind both halves are those of the file. Nothing is asked of x15, of x17 to x31, nor of the duplicate half
+-- The output's state u goes on at the entry of the block where the input's state s stands. Its registers x1 to x13 and
+-- the bytes that the input maps are those of s. In x16 is the pc of s, and in x14 the distance of the halves. Code,
+-- permissions and what stands behind both halves are those of the file. Nothing is asked of x15, of x17 to x31, nor of
+-- the duplicate half
 pub record HasOriginals (f g : Program) (base distance : ℕ) (entry : ℕ → ℕ) (s u : State) : Type 0 where
   pub going : u.outcome ≡ Going
   pub here : u.pc ≡ entry s.pc
