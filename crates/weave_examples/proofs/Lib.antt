@@ -9,6 +9,7 @@ pub mod LoopExample
 pub mod LoopKept
 mod LoopCaught
 mod LoopClean
+mod LeanExample
 pub mod StoreExample
 pub mod StoreKept
 mod StoreCaught

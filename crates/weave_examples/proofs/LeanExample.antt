@@ -1,0 +1,218 @@
+-- The known test with a loop in the lean form, with entries that test the signature: it has words, and its promises on
+-- jumps that land wrong and on x14 are at work, with computed runs.
+use Rattle.std.proofs.Common.{◌≡◌, ◌⊎◌, inl, inr, ⊎_elim, ℕ, ◌+◌, ◌*◌, ◌%◌, ◌<◌, ◌≤◌, Bool, true, false, not, List, [], ◌∷◌, Some, None, refl, sym, ap, ◌∙◌, arith}
+use Rattle.std.specs.Prelude.{pos, ◌==◌, ◌||◌}
+use Rattle.std.proofs.lemmas.Bool.{false≢true, eqb-true, eq-eqb, or_cases, not-true}
+use Rattle.rv_isa.specs.declared.class.Class.TheVariants as class
+use Rattle.tests.specs.declared.options.Options.{Options}
+use Rattle.tests.specs.declared.options.Entries.TheVariants as entries
+use Rattle.tests.specs.Admission.CodeWords.{is_code}
+use Rattle.tests.specs.Admission.Leaders.{HasIndirect, is_indirect, IsLeader, Begins, Entry, Target, After, Named, Reached, Even}
+use Rattle.tests.specs.Admission.Refusals.{IsAdmitted}
+use Rattle.tests.specs.Elf.FileRead.{file_read}
+use Rattle.machine.specs.Loading.{loaded_file}
+use Rattle.machine.proofs.Lemmas.{every_all}
+use Rattle.qed_model.specs.Weave.Sequences.{Block, End, Falls, Stops}
+use Rattle.qed_model.specs.Weave.Blocks.{AreBlocks, IsBlockOf, IsLeaderBlock, IsMarked, StopsAt}
+use Rattle.qed_model.specs.Weave.SoundOptions.{AreSoundOptions}
+use Rattle.qed_model.specs.Weave.Placed.{placed}
+use Rattle.qed_model.specs.Weave.LeanCode.{lean_items}
+use Rattle.qed_model.specs.Weave.LeanBounds.{lean_bounds}
+use Rattle.qed_model.specs.Promise.Faults.{FaultsFound, gives}
+use Rattle.qed_model.specs.Promise.InStep.{SettlesWithin}
+use Rattle.qed_model.specs.Promise.Kept.{after_output}
+use Rattle.qed_model.specs.Promise.Landed.{placed_at}
+use Rattle.qed_model.proofs.ExampleCode as code
+use Rattle.qed_model.proofs.Lemmas.{defaults, covers_steady}
+use Rattle.weave_core.specs.World.{Program, memory_of, start, zeros, Going, Fired, Ins, Addi, Known, State, class_of, HasAt, fetched_at, moved, next, next_pc, reg, run, set_reg, DISTANCE, CURSOR, SIGNATURE, execute, jumped, computed_value, value, holds}
+use Rattle.weave_core.proofs.FileOfItems as of
+use Rattle.tests.proofs.Lemmas.{zeros_start}
+use Rattle.lean.specs.Tests.{AreLeanBlocks, IsLeanTest, lean_file}
+use Rattle.machine.specs.Members.{Among, Every}
+use Rattle.machine.specs.Table.{Ecall, ins}
+use Rattle.lean.specs.Strayed.{IsInBlock, Strayed, Displaced, Adrift, Stopped, HasCount, with_distance, displaced_steps, code_in, entry_in}
+use Rattle.lean.proofs.Weave.Tests as lean
+use Rattle.weave_examples.proofs.KnownFiles.{loop, loop_sound}
+use Rattle.weave_examples.proofs.LoopExample.{loop_code, loop_known, loop_blocks, loop_each, loop_are}
+use Rattle.weave_examples.proofs.LoopKept.{loop_input, none, steady_none}
+use Rattle.weave_examples.proofs.ListedRuns.{found, go, is_simple_run, run_is, state_of}
+
+-- ---- the test
+-- the options: those of no option beside the form, with short pieces
+abbrev pub options : Options
+options = record { inst_min = 4; inst_max = 16; round = 1; half = None; sweep = false; diverse = false; entries = entries.Reached; lean = Some 1200; land = true }
+
+sound : AreSoundOptions options
+sound = record { some = omega arith; room = omega arith; most = omega arith; visits = omega arith; few_visits = omega arith; half = tt; lean = (refl, omega arith, omega arith) }
+
+admitted : IsAdmitted loop options
+admitted = code.admitted loop 0x10000 loop_code loop_known refl options refl refl (omega arith) (omega arith) (omega arith) (omega arith)
+
+-- no instruction is a JALR
+no_indirect : HasIndirect loop → ⊥
+no_indirect h =
+    let i = h.1.instruction in
+    let none : not (is_indirect (class_of i.kind)) ≡ true = code.passes_each (λ a j. not (is_indirect (class_of j.kind))) h.0 i 0x10000 loop_code refl (code.one_of loop 0x10000 loop_code loop_known h.0 i h.1.stands) in
+    false≢true (sym (not-true (is_indirect (class_of i.kind)) none) ∙ h.1.class)
+
+-- ---- its leaders and blocks are those of the other form
+to_lean : (a : ℕ) → IsLeader loop defaults a → IsLeader loop options a
+to_lean a l = record { code = l.code; begins = by l.begins } where
+  by : Begins loop defaults a → Begins loop options a
+  by (Entry e) = Entry e
+  by (Target i s e) = Target i s e
+  by (After i s e) = After i s e
+  by (Named e) = Named e
+  by (Reached e h r) = absurd (no_indirect h)
+  by (Even e m) = absurd (false≢true e)
+
+-- the entry alone is a multiple of 64
+to_other : (a : ℕ) → IsLeader loop options a → IsLeader loop defaults a
+to_other a l = record { code = l.code; begins = by l.begins } where
+  even : (not (a % 64 == 0) || (a == 0x10000)) ≡ true
+  even = code.tested loop 0x10000 loop_code loop_known (λ b. not (b % 64 == 0) || (b == 0x10000)) refl a l.code
+
+  by : Begins loop options a → Begins loop defaults a
+  by (Entry e) = Entry e
+  by (Target i s e) = Target i s e
+  by (After i s e) = After i s e
+  by (Named e) = Named e
+  by (Reached e h r) = absurd (no_indirect h)
+  by (Even e m) = Entry (⊎_elim (λ n. absurd (false≢true (sym (not-true (a % 64 == 0) n) ∙ eq-eqb (a % 64) 0 m))) (λ s. eqb-true a 0x10000 s) (or_cases (not (a % 64 == 0)) (a == 0x10000) even))
+
+block : (b : Block) → IsBlockOf loop defaults b → IsBlockOf loop options b
+block b (inr x) = absurd (no_indirect x.indirect)
+block b (inl x) = inl (record {
+  leader = to_lean b.start x.leader;
+  body = x.body;
+  stands = x.stands;
+  inside = λ k some few l. x.inside k some few (to_other _ l);
+  stops = stops b.end _ _ x.stops;
+  pieces = x.pieces;
+}) where
+  stops : (e : End) (n a : ℕ) → StopsAt loop defaults e n a → StopsAt loop options e n a
+  stops (Stops i) n a s = (s.0, s.1, ⊎_elim (λ z. inl z) (λ ne. inr (λ l. ne (to_other a l))) s.2)
+  stops Falls n a s = (s.0, ⊎_elim (λ l. inl (to_lean a l)) (λ no_code. inr no_code) s.1)
+
+unmarked : (b : Block) → b.reached ≡ false → IsMarked loop options b
+unmarked b e = (λ x. absurd (false≢true (sym e ∙ x)), λ m. absurd (no_indirect m.1))
+
+marks : (bs : List Block) → Every (λ (b : Block). b.reached ≡ false) bs → Every (IsMarked loop options) bs
+marks [] h = tt
+marks (b ∷ bs) h = (unmarked b h.0, marks bs h.1)
+
+are : AreBlocks loop options loop_blocks
+are =
+    let each = loop_each false in
+    let other = loop_are false in
+    record {
+      ascend = other.ascend;
+      each = every_all (IsBlockOf loop options) loop_blocks (block _ each.0, (block _ each.1.0, (block _ each.1.1.0, tt)));
+      marked = every_all (IsMarked loop options) loop_blocks (marks loop_blocks (refl, (refl, (refl, tt))));
+      leaders = λ a l. other.leaders a (to_other a l);
+      others = λ e h a c. absurd (no_indirect h);
+    }
+
+cut : AreLeanBlocks loop options 1200 loop_blocks
+cut = record { file = loop_sound; sound = sound; admitted = admitted; lean = refl; are = are }
+
+-- ---- its output
+pub lean_words : (words : List ℕ) × IsLeanTest loop options 1200 loop_blocks words
+lean_words = lean.tests_have_words loop options 1200 loop_blocks cut (omega arith)
+
+abbrev pub lean_output : Program
+lean_output = loaded_file (file_read (lean_file loop options 1200 loop_blocks lean_words.0))
+
+abbrev pub new_code : List Ins
+new_code = placed false 0x13000 (lean_items loop options 1200 loop_blocks)
+
+stand : HasAt (fetched_at (memory_of lean_output.segments) lean_output.ranges) 0x13000 new_code
+stand = of.stand loop options sound loop_sound.loads admitted loop_blocks are false true (lean_items loop options 1200 loop_blocks) lean_words.0 (lean.are_items loop options 1200 loop_blocks cut lean_words.0 lean_words.1)
+
+-- a run from a state whose memory is that of the file
+runs : (n : ℕ) (s : State) → is_simple_run 0x13000 new_code n s ≡ true → s.memory ≡ memory_of lean_output.segments → s.ranges ≡ lean_output.ranges → run s n ≡ go 0x13000 new_code n s
+runs n s simple memory ranges = run_is (memory_of lean_output.segments) lean_output.ranges 0x13000 new_code stand n s simple memory ranges
+
+-- ---- the promises
+strayed : Strayed lean_output (code_in loop options 1200 loop_blocks) (entry_in loop options 1200 loop_blocks) loop_blocks
+strayed = lean.tests_strayed loop options 1200 loop_blocks lean_words.0 lean_words.1 refl
+
+displaced : Displaced lean_output (code_in loop options 1200 loop_blocks) (entry_in loop options 1200 loop_blocks) loop_blocks
+displaced = lean.tests_displaced loop options 1200 loop_blocks lean_words.0 lean_words.1
+
+adrift : Adrift lean_output (code_in loop options 1200 loop_blocks) 4096 (entry_in loop options 1200 loop_blocks) loop_blocks
+adrift = lean.tests_adrift loop options 1200 loop_blocks lean_words.0 lean_words.1
+
+-- ---- at work
+-- after 31 steps the output stands at the entry of 0x10000, with a count of 2047
+abbrev first_entry : List ℕ
+first_entry = 0 ∷ 0 ∷ 0 ∷ 0 ∷ 0 ∷ 0 ∷ 0 ∷ 0 ∷ 0 ∷ 0 ∷ 0 ∷ 0 ∷ 0 ∷ 0 ∷ 4096 ∷ 2047 ∷ 0x10000 ∷ 0 ∷ 0 ∷ 0 ∷ 0 ∷ 0 ∷ 0 ∷ 0 ∷ 0 ∷ 0 ∷ 0 ∷ 0 ∷ 0 ∷ 0 ∷ 0 ∷ 0 ∷ []
+
+at_entry : after_output lean_output zeros 31 ≡ state_of lean_output first_entry 0x1314c Going
+unfolding execute jumped computed_value value holds
+at_entry = runs 31 (start lean_output zeros) refl refl refl
+
+goes_on : (after_output lean_output zeros 31).outcome ≡ Going
+goes_on = ap (λ s. s.outcome) at_entry
+
+-- a count below 2048, and the signature of another block than that of 0x1000c
+counted : HasCount (reg (after_output lean_output zeros 31) CURSOR)
+counted = let e = ap (λ s. reg s CURSOR) at_entry in record { count = omega (arith, e); offset = omega (arith, e) }
+
+other_sign : reg (after_output lean_output zeros 31) SIGNATURE ≡ 0x1000c → ⊥
+other_sign h = let e = ap (λ s. reg s SIGNATURE) at_entry in absurd (omega (arith, e, h))
+
+-- set to the entry of 0x1000c, it is over; the check there fires with the fourth step
+displaced_there : Stopped displaced_steps (placed_at 0x131c4 (after_output lean_output zeros 31))
+displaced_there = displaced.stops zeros 31 0x1000c zeros_start goes_on refl counted other_sign
+
+displaced_fires : run (placed_at 0x131c4 (after_output lean_output zeros 31)) 4 ≡ state_of lean_output (set_reg 30 0x1000c first_entry) 0x131d0 Fired
+unfolding execute jumped computed_value value holds
+displaced_fires = ap (λ s. run (placed_at 0x131c4 s) 4) at_entry ∙ runs 4 (state_of lean_output first_entry 0x131c4 Going) refl refl refl
+
+-- set behind the pieces of this block, which has none, it is over too: at the end of the test its signature is compared
+last_block : Among (record { start = 0x1000c; body = [] ∷ []; end = Stops (ins Ecall 0 0 0 (pos 0)); reached = false }) loop_blocks
+last_block = inr (inr (inl refl))
+
+behind_pieces : IsInBlock (code_in loop options 1200 loop_blocks) (entry_in loop options 1200 loop_blocks) (record { start = 0x1000c; body = [] ∷ []; end = Stops (ins Ecall 0 0 0 (pos 0)); reached = false }) 0x131d4
+behind_pieces = record { words = 0; within = omega arith; there = refl }
+
+strayed_there : Stopped 19 (placed_at 0x131d4 (after_output lean_output zeros 31))
+strayed_there = strayed.stops zeros 31 0x131d4 _ zeros_start goes_on last_block behind_pieces other_sign
+
+strayed_fires : run (placed_at 0x131d4 (after_output lean_output zeros 31)) 19 ≡ state_of lean_output (set_reg 30 0x1000c first_entry) 0x13254 Fired
+unfolding execute jumped computed_value value holds
+strayed_fires = ap (λ s. run (placed_at 0x131d4 s) 19) at_entry ∙ runs 19 (state_of lean_output first_entry 0x131d4 Going) refl refl refl
+
+-- with 7 in x14 at its own entry it is over: the tick goes to the check, which compares x14
+adrift_there : Stopped displaced_steps (with_distance 7 (placed_at 0x1314c (after_output lean_output zeros 31)))
+adrift_there = adrift.stops zeros 31 0x10000 7 zeros_start goes_on refl counted (λ e. absurd (omega (arith, e)))
+
+adrift_fires : (run (with_distance 7 (placed_at 0x1314c (after_output lean_output zeros 31))) 11).outcome ≡ Fired
+unfolding execute jumped computed_value value holds
+adrift_fires = ap (λ s. (run (with_distance 7 (placed_at 0x1314c s)) 11).outcome) at_entry ∙ ap (λ s. s.outcome) (runs 11 (state_of lean_output (set_reg DISTANCE 7 first_entry) 0x1314c Going) refl refl refl)
+
+-- ---- a wrong instruction: the first one gives 7, not 0. The set of reached addresses is empty
+lean_faults : FaultsFound loop_input lean_output none [] (lean_bounds loop options 1200) 31 182
+lean_faults = lean.tests_faults loop options 1200 loop_blocks lean_words.0 lean_words.1 none (λ e a h. absurd (false≢true h))
+
+at_start : after_output lean_output zeros 0 ≡ state_of lean_output zeros 0x13000 Going
+at_start = runs 0 (start lean_output zeros) refl refl refl
+
+first_next : next (after_output lean_output zeros 0) ≡ Known (ins Addi 1 0 0 (pos 0))
+first_next = ap next at_start ∙ found (fetched_at (memory_of lean_output.segments) lean_output.ranges) 0x13000 new_code 0x13000 (ins Addi 1 0 0 (pos 0)) stand refl
+
+-- the state that the wrong instruction leaves
+abbrev wrong_first : State
+wrong_first = moved (set_reg 1 7 (after_output lean_output zeros 0).regs) (next_pc (after_output lean_output zeros 0)) (after_output lean_output zeros 0)
+
+-- all premises of the promise are met
+first_settles : SettlesWithin [] 0 1313 (run wrong_first) (λ k. after_output lean_output zeros (1 + k))
+first_settles =
+    lean_faults.results zeros 0 (ins Addi 1 0 0 (pos 0)) wrong_first zeros_start (ap (λ s. s.outcome) at_start) first_next (record { writes = inl refl; some = omega arith; low = omega arith })
+    (gives 7 refl) (covers_steady loop_input lean_output none 31 182 zeros (1 + 1313) (steady_none (1 + 1313) (omega arith)))
+
+-- the first check fires 42 steps later
+first_fires : (run wrong_first 42).outcome ≡ Fired
+unfolding execute jumped computed_value value holds
+first_fires = ap (λ s. (run (moved (set_reg 1 7 s.regs) (next_pc s) s) 42).outcome) at_start ∙ ap (λ s. s.outcome) (runs 42 (state_of lean_output (set_reg 1 7 zeros) 0x13004 Going) refl refl refl)
