@@ -7,17 +7,15 @@ use Rattle.qed_model.specs.Weave.Sequences.{Reads, fired_check, compare, visit, 
 use Rattle.qed_model.specs.Weave.Bounds.{visit_bound}
 use Rattle.qed_model.specs.Weave.Lean.{look_up, look_again, first_word, called, check_distance, begun, done, check}
 use Rattle.tests.specs.Admission.DataRanges.{word_count}
-use Rattle.machine.proofs.Lemmas.{Over, over_moved, Walk, walk_on}
 use Rattle.weave_core.specs.World.{World, Quiet, Twice, IsCursor, GoodSpans, AllBelow, words_on, Item, Plain, value}
 use Rattle.weave_core.specs.Blocks.{IsEntryOf, TableAt}
 use Rattle.weave_core.specs.Kinds.{originals}
 use Rattle.weave_core.specs.Lock.{ComparesFrom}
 use Rattle.weave_core.specs.Rows.{At}
 use Rattle.weave_core.specs.WeaveLaws.{GoesTo, Stands, Visits}
-use Rattle.weave_core.proofs.Lemmas.{own_pair, guards_pass, visit_more, addi_value, add_result, sub_result, Tabled, tabled, word, table_word, table_load, find, found, entry_leap, halved_regs, halved_moved, Sets, writes, writes_long, writes_out, halved_writes, sets_on, sets_compute, sets_equal, visit_row, visit_later, words_within, word_low, all_small, compare_stands}
-use Rattle.lockstep.proofs.Lemmas.{word_below}
 use Rattle.qed_model.specs.Promise.Changed.{IsDataWord}
 use Rattle.lean.specs.Ticked.{with_count}
+use Rattle.lean.proofs.Weave.Carry.{Over, over_moved, Walk, walk_on, own_pair, guards_pass, visit_more, addi_value, add_result, sub_result, Tabled, tabled, word, table_word, table_load, find, found, entry_leap, halved_regs, halved_moved, Sets, writes, writes_long, writes_out, halved_writes, sets_on, sets_compute, sets_equal, visit_row, visit_later, words_within, word_low, all_small, compare_stands, word_below}
 use Rattle.lean.proofs.Weave.Chain.{Op, plain, constant, effects, Gives, read_back, all_temps, chain}
 use Rattle.lean.proofs.Weave.Sign.{distance_set}
 use Rattle.lean.proofs.Weave.Turn.{lui_value}

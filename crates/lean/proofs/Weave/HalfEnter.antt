@@ -11,9 +11,8 @@ use Rattle.qed_model.specs.Weave.Sequences.{Reads, fired_check, check_sign, comp
 use Rattle.weave_core.specs.Blocks.{IsEntryOf, TableAt}
 use Rattle.weave_core.specs.Kinds.{originals}
 use Rattle.weave_core.specs.World.{World, Item, Plain, Constant, State, reg, set_reg, moved, run, wrapped}
-use Rattle.weave_core.proofs.Lemmas.{AllTemps, Tabled, find, found, entry_leap, sign_walk, sets_compute, addi_value, writes, writes_long, writes_out}
 use Rattle.lean.specs.Woven.{LeanIn}
-use Rattle.lean.proofs.Weave.Carry.{Keep, keep_append, keep_guards, keep_distance, Comes, comes_none, comes_more, comes_behind, comes_on, slice_index-set_reg_other, slice_index-set_reg_same, Over, over_moved}
+use Rattle.lean.proofs.Weave.Carry.{Keep, keep_append, keep_guards, keep_distance, Comes, comes_none, comes_more, comes_behind, comes_on, slice_index-set_reg_other, slice_index-set_reg_same, Over, over_moved, AllTemps, Tabled, find, found, entry_leap, sign_walk, sets_compute, addi_value, writes, writes_long, writes_out}
 use Rattle.lean.proofs.Weave.Chain.{read_back}
 use Rattle.lean.proofs.Weave.Check.{again, again_set, slli_value as slli_12}
 use Rattle.lean.proofs.Weave.Half.{is_spare, Half, Into, half_over, half_regs, half_spare, half_moved, half_carry}
@@ -172,8 +171,8 @@ module _ (w : World) (l : Lean) (leader : ℕ → Bool) (x : LeanIn w l leader) 
       let slli = ins Slli CURSOR CURSOR 0 (pos 12) in
       let addi = ins Addi CURSOR CURSOR 0 (pos (2047 - l.every)) in
       let front = Constant TEMPORARY first ∷ Plain (ins Sub CURSOR CURSOR TEMPORARY (pos 0)) ∷ [] in
-      comes_on (Into w a s (Plain slli ∷ Plain addi ∷ looks)) (Back a s) u 3 13 (half_carry w front (refl, (inl refl, tt)) a s u (Plain slli ∷ Plain addi ∷ looks) h r) (λ y b. counted y b.0 b.1) where
-        counted : (y : State) → Half w a s y → Reads false w.code w.entry y.pc (Plain (ins Slli CURSOR CURSOR 0 (pos 12)) ∷ Plain (ins Addi CURSOR CURSOR 0 (pos (2047 - l.every))) ∷ looks) → Comes (Back a s) y 13
+      comes_on (Into w a s (Plain slli ∷ Plain addi ∷ looks)) (Back a s) u 3 (2 + 11) (half_carry w front (refl, (inl refl, tt)) a s u (Plain slli ∷ Plain addi ∷ looks) h r) (λ y b. counted y b.0 b.1) where
+        counted : (y : State) → Half w a s y → Reads false w.code w.entry y.pc (Plain (ins Slli CURSOR CURSOR 0 (pos 12)) ∷ Plain (ins Addi CURSOR CURSOR 0 (pos (2047 - l.every))) ∷ looks) → Comes (Back a s) y (2 + 11)
         counted y h r =
             let slli = ins Slli CURSOR CURSOR 0 (pos 12) in
             let addi = ins Addi CURSOR CURSOR 0 (pos (2047 - l.every)) in

@@ -15,9 +15,8 @@ use Rattle.qed_model.specs.Weave.Sequences.{Reads, guard, links, LAST_ORIGINAL, 
 use Rattle.weave_core.specs.Blocks.{IsEntryOf, Goes, TableAt}
 use Rattle.weave_core.specs.Rows.{Sourced}
 use Rattle.weave_core.specs.World.{World, Item, Mark, Plain, Constant, Go, State, reg, set_reg, moved, imm, next_pc, Known, step, run, target, class_of, holds, byte_at}
-use Rattle.weave_core.proofs.Lemmas.{AllTemps, Branches, branch_step, branch_to, branch_taken, branch_passed, jump_step, go_walk, go_most, leap_step, Leaps, aim, linked, linked_out, links_sets, writes, writes_long, writes_out}
 use Rattle.lean.specs.Woven.{LeanIn}
-use Rattle.lean.proofs.Weave.Carry.{Keep, keep_guard, keep_distance, keep_way, Comes, comes_none, comes_more, comes_behind, comes_on, over_moved, flagged_moved}
+use Rattle.lean.proofs.Weave.Carry.{Keep, keep_guard, keep_distance, keep_way, Comes, comes_none, comes_more, comes_behind, comes_on, over_moved, flagged_moved, AllTemps, Branches, branch_step, branch_to, branch_taken, branch_passed, jump_step, go_walk, go_most, leap_step, Leaps, aim, linked, linked_out, links_sets, writes, writes_long, writes_out}
 use Rattle.lean.proofs.Weave.Chain.{items, effects, read_back, all_temps, chain, cost_append}
 use Rattle.lean.proofs.Weave.Costs.{guard_most, way_most}
 use Rattle.lean.proofs.Weave.Half.{is_spare, Half, Into, Holding, half_over, half_regs, half_spare, half_moved, half_original, half_carry}

@@ -18,10 +18,9 @@ use Rattle.weave_core.specs.Rows.{Sourced}
 use Rattle.weave_core.specs.Weave.{Weave}
 use Rattle.weave_core.specs.WeaveLaws.{PiecesAt, Met, stops}
 use Rattle.weave_core.specs.World.{World, Item, Program, Known, State, step, run, target, Class, class_of, HasAt}
-use Rattle.weave_core.proofs.Lemmas.{aim, leap_step, met_going, met_ended, met_same, no_code, not_trapped_le, run-ended, source_run, steady_le, steady_rest, step-illegal}
 use Rattle.lean.specs.Woven.{LeanPlan, lean_weave_of}
 use Rattle.lean.proofs.Weave.Blocks.{begun, begins}
-use Rattle.lean.proofs.Weave.Carry.{Comes, comes_none, comes_map, comes_more, comes_on, known_at, run-more, run-none, one_run}
+use Rattle.lean.proofs.Weave.Carry.{Comes, comes_none, comes_map, comes_more, comes_on, known_at, run-more, run-none, one_run, aim, leap_step, met_going, met_ended, met_same, no_code, not_trapped_le, run-ended, source_run, steady_le, steady_rest, step-illegal}
 use Rattle.lean.proofs.Weave.Costs.{branch_cost, falls_cost, goes_most}
 use Rattle.lean.proofs.Weave.Chain.{cost_append}
 use Rattle.lean.proofs.Weave.Half.{Half, Into}

@@ -7,12 +7,11 @@ use Rattle.qed_model.specs.Promise.Kept.{NotTrapped}
 use Rattle.qed_model.specs.Weave.Sequences.{Reads, guard, links, LAST_ORIGINAL, CURSOR, SIGNATURE, TEMPORARY, pair}
 use Rattle.qed_model.specs.Weave.Lean.{take_target, turn_leap, called, check_distance, look_up, look_again, leave_as, cost}
 use Rattle.qed_model.specs.Weave.LeanCode.{fall_to}
-use Rattle.machine.proofs.Lemmas.{Over, over_moved, Walk, walk_none, walk_on}
 use Rattle.weave_core.specs.World.{World, Quiet, Twice, Item, State, reg, moved, imm, next_pc, Known, step, class_of, set_reg}
 use Rattle.weave_core.specs.Blocks.{IsEntryOf, Goes, TableAt}
 use Rattle.weave_core.specs.Rows.{At, Sourced}
 use Rattle.weave_core.specs.WeaveLaws.{lands, is_lost}
-use Rattle.weave_core.proofs.Lemmas.{own_pair, aim, Leaps, leap_step, addi_value, andi_value, linked, linked_out, links_sets, halved_original, halved_pair, halved_moved, pair_value, Sets, writes, halved_writes, add_result, sub_result, sets_equal}
+use Rattle.lean.proofs.Weave.Carry.{Over, over_moved, Walk, walk_none, walk_on, own_pair, aim, Leaps, leap_step, addi_value, andi_value, linked, linked_out, links_sets, halved_original, halved_pair, halved_moved, pair_value, Sets, writes, halved_writes, add_result, sub_result, sets_equal}
 use Rattle.lean.proofs.Weave.Chain.{Op, plain, constant, effects, Gives, read_back, all_temps, chain, cost_append}
 use Rattle.lean.proofs.Weave.Check.{look_there}
 use Rattle.lean.proofs.Weave.Leave.{Went, guard_cost, linking, link_words}

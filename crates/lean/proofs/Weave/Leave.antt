@@ -8,16 +8,14 @@ use Rattle.machine.specs.Table.{ins, Ins, Kind, Beq, Jal}
 use Rattle.qed_model.specs.Promise.Kept.{NotTrapped}
 use Rattle.machine.specs.Offsets.{distance_between}
 use Rattle.qed_model.specs.Weave.Placed.{sum_of_sizes}
-use Rattle.qed_model.proofs.Lemmas.{size-append}
 use Rattle.qed_model.specs.Weave.Sequences.{Reads, fired_check, guard, links, LAST_ORIGINAL, PAIR_DISTANCE, CURSOR, SIGNATURE, pair}
 use Rattle.qed_model.specs.Weave.Lean.{turn, goes, opposite, check_way, taken, leave_as, cost, leave_cost_as}
 use Rattle.qed_model.specs.Weave.LeanCode.{fall_to}
-use Rattle.machine.proofs.Lemmas.{Over, over_moved, Walk, walk_on}
 use Rattle.weave_core.specs.World.{World, Quiet, Twice, Item, Mark, Plain, Constant, Go, State, reg, moved, next_pc, Known, step, target, class_of, set_reg, holds, wrapped}
 use Rattle.weave_core.specs.Blocks.{IsEntryOf, Goes}
 use Rattle.weave_core.specs.Rows.{At, Led, Sourced}
 use Rattle.weave_core.specs.WeaveLaws.{GoesTo, Onward, lands, is_lost}
-use Rattle.weave_core.proofs.Lemmas.{Passes, pass_none, guard_pass, pair_value, Branches, branch_step, branch_to, go_most, go_walk, halved_gone, jump_step, links_as, branch_taken, branch_passed, halved_regs, halved_views, halved_moved, led_none, led_more}
+use Rattle.lean.proofs.Weave.Carry.{size-append, Over, over_moved, Walk, walk_on, Passes, pass_none, guard_pass, pair_value, Branches, branch_step, branch_to, go_most, go_walk, halved_gone, jump_step, links_as, branch_taken, branch_passed, halved_regs, halved_views, halved_moved, led_none, led_more}
 use Rattle.lean.proofs.Weave.Chain.{cost_append}
 use Rattle.lean.proofs.Weave.Ways.{opposite_is, reads_behind}
 use Rattle.lean.proofs.Weave.Turn.{Signed, turned, turn_any, turn_row}

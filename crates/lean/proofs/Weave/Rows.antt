@@ -7,17 +7,16 @@ use Rattle.machine.specs.Table.{ins, Ins, Beq}
 use Rattle.qed_model.specs.Promise.Kept.{NotTrapped}
 use Rattle.machine.specs.Offsets.{distance_between}
 use Rattle.qed_model.specs.Weave.Sequences.{Reads, CURSOR, SIGNATURE, TEMPORARY}
-use Rattle.machine.proofs.Lemmas.{Over, over_moved, Walk, walk_none, walk_on}
 use Rattle.weave_core.specs.World.{World, Quiet, Twice, IsCursor, words_on, Item, State, reg, moved, run}
 use Rattle.weave_core.specs.Rows.{At, Sourced}
 use Rattle.weave_core.specs.Weave.{Weave}
 use Rattle.weave_core.specs.WeaveLaws.{PieceAt, Stands, GoesTo, Inside, Trail}
-use Rattle.weave_core.proofs.Lemmas.{writes, halved_writes, words_within}
 use Rattle.lean.specs.Ticked.{with_count, is_ticked_at}
 use Rattle.qed_model.specs.Weave.LeanBounds.{cost_of, entry_steps, call_steps}
 use Rattle.qed_model.specs.Weave.Lean.{first_word, tick, enter, call_at, check}
 use Rattle.qed_model.specs.Weave.LeanCode.{Lean}
 use Rattle.lean.specs.Woven.{check_steps, lean_weave_of, LeanIn}
+use Rattle.lean.proofs.Weave.Carry.{Over, over_moved, Walk, walk_none, walk_on, writes, halved_writes, words_within}
 use Rattle.lean.proofs.Weave.Chain.{read_back, all_temps}
 use Rattle.lean.proofs.Weave.Check.{Back, check_row}
 use Rattle.lean.proofs.Weave.Held.{Ticked, ticked_of, ticked_is, ticked_same}

@@ -3,13 +3,11 @@ use Rattle.std.proofs.Common.{◌≡◌, ℕ, ◌+◌, ◌%◌, ◌^◌, ◌<◌
 use Rattle.std.specs.Prelude.{◌==◌, ℤ, pos, ◌+ℤ◌, ◌-ℤ◌, slice_index}
 use Rattle.std.proofs.lemmas.Bool.{eqb-true}
 use Rattle.std.proofs.lemmas.Int.{ints}
-use Rattle.rv_isa.proofs.RegsLaws.{slice_index-set_reg_other, slice_index-set_reg_same, length-set_reg}
 use Rattle.machine.specs.Offsets.{distance_between, upper_part, lower_part}
 use Rattle.qed_model.specs.Weave.Sequences.{Reads, SIGNATURE, TEMPORARY}
 use Rattle.qed_model.specs.Weave.Lean.{is_short, turn_by, turn, cost}
-use Rattle.machine.proofs.Lemmas.{Over, over_moved, walk_none, wrapped-add, difference}
 use Rattle.weave_core.specs.World.{World, Quiet, Item, Plain, wrapped, State, reg, moved, result, computed_value, set_reg, ins, Lui, Addi, Add}
-use Rattle.weave_core.proofs.Lemmas.{addi_value, Sets, sets_on, sets_compute, add_result}
+use Rattle.lean.proofs.Weave.Carry.{slice_index-set_reg_other, slice_index-set_reg_same, length-set_reg, Over, over_moved, walk_none, wrapped-add, difference, addi_value, Sets, sets_on, sets_compute, add_result}
 
 -- what LUI gives
 pub lui_value : (u : State) (r : ℕ) (z : ℤ) → result Lui (ins Lui r 0 0 z) u ≡ wrapped z

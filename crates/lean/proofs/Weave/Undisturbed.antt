@@ -3,22 +3,20 @@ use Rattle.std.proofs.Common.{◌≡◌, ◌↔◌, ℕ, zero, suc, ◌+◌, ◌
 use Rattle.std.specs.Prelude.{◌-◌}
 use Rattle.std.proofs.lemmas.Bool.{cases_eq}
 use Rattle.std.proofs.Math.Nat.{mul-le-mul_left}
-use Rattle.qed_model.proofs.Lemmas.{some-flags}
 use Rattle.qed_model.specs.Promise.Kept.{after_input, Halves}
 use Rattle.qed_model.specs.Weave.Blocks.{begins_at}
 use Rattle.qed_model.specs.Weave.LeanCode.{Lean}
 use Rattle.qed_model.specs.Weave.Lean.{cost}
-use Rattle.qed_model.specs.Weave.Sequences.{Block, compare, visit, visit_word, wraps, LAST_ORIGINAL}
+use Rattle.qed_model.specs.Weave.Sequences.{Block, compare, visit, visit_word, wraps, ORIGINALS, LAST_ORIGINAL}
 use Rattle.tests.specs.Admission.DataRanges.{word_count}
 use Rattle.weave_core.specs.Describes.{Describes}
 use Rattle.weave_core.specs.Leaving.{sweep_cost}
 use Rattle.weave_core.specs.Rows.{Sourced}
 use Rattle.weave_core.specs.WeaveLaws.{Met}
 use Rattle.weave_core.specs.World.{World, GoodSpans, Program, Going, start, zeros, State, get, flags_at, reg, run}
-use Rattle.weave_core.proofs.Lemmas.{first_sourced, steady_rest}
 use Rattle.lean.specs.Undisturbed.{HasOriginals, ComesTo, Undisturbed, undisturbed_piece, undisturbed_ends}
 use Rattle.lean.specs.Woven.{LeanPlan, LeanUndisturbed}
-use Rattle.lean.proofs.Weave.Carry.{Comes, run-more, Standing, standing_run}
+use Rattle.lean.proofs.Weave.Carry.{Comes, run-more, Standing, standing_run, some-flags, first_sourced, steady_rest}
 use Rattle.lean.proofs.Weave.Chain.{cost_append}
 use Rattle.lean.proofs.Weave.Half.{Half}
 use Rattle.lean.proofs.Weave.HalfEnd.{sweep_most, end_most}
@@ -84,13 +82,13 @@ module _ (f g : Program) (w : World) (l : Lean) (blocks : List Block) (p : LeanP
   round_few : round_most f g w l blocks p ≤ undisturbed_piece l.land (length w.form.spans) w.form.round
   round_few =
       let v = visit_cost w.form.round w.form.spans in
-      let c : cost compare ≡ 13 = refl in
+      let c : cost compare ≡ ORIGINALS = refl in
       omega (arith, v, c)
 
   ends_few : end_most w + 1 ≤ undisturbed_ends w.form.spans
   ends_few =
       let s = sweep_few w.form.spans w.base w.spans_good in
-      let c : cost compare ≡ 13 = refl in
+      let c : cost compare ≡ ORIGINALS = refl in
       omega (arith, s, c)
 
   comes : (t u : State) (n : ℕ) → Comes (λ y. Met w y t) u (total f g w l blocks p n) → ComesTo f t u ((n + 1) * undisturbed_piece l.land (length w.form.spans) w.form.round + undisturbed_ends w.form.spans)
