@@ -163,6 +163,7 @@ module _ (w : World) where
     by class.Fence e d = inr (goes_to sign u i u.regs a h (does class.Fence e) (refl, refl, refl))
     by class.Break e d = inl (inl (ap (λ s. s.outcome) (does class.Break e)))
     by k e d = absurd (cc)
+
   -- ---- the laws
   drift_keeps : (x : ℕ × ℕ × ℕ) → Carried w is_other true (Drifting x)
   drift_keeps x = record {

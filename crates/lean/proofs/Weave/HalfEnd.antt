@@ -101,9 +101,9 @@ module _ (w : World) (near : w.form.far ≡ false) where
       compares w near Q d 30 31 tail (3 + k) (half_over w x s d hd.0) (to_far w near d.pc check (subst (λ p. Reads false w.code w.entry p check) (sym pd2) r.1.1.1)) (λ e q.
       let v = moved d.regs (d.pc + 4 + 4) d in
       counts Q top c x s v rest k few high (half_moved w x s d (d.pc + 4 + 4) hd.0, hd.1) (to_near w near (d.pc + 4 + 4) tail q) (λ y hy e15 e30 py. f y hy e15 e30 (py ∙ far d.pc u.pc pd2)))))))
-      where
-        far : (p q : ℕ) → p ≡ q + 4 + 4 + 4 → p + 4 + 4 + 12 ≡ q + 32
-        far p q e = omega (arith, e)
+    where
+      far : (p q : ℕ) → p ≡ q + 4 + 4 + 4 → p + 4 + 4 + 12 ≡ q + 32
+      far p q e = omega (arith, e)
 
   loop :
       (n top c x : ℕ) (s u : State) (rest : List Item) → c + 8 * suc n ≡ top → top < 2 ^ 64 → u.pc < 2 ^ 64 → u.pc % 4 ≡ 0 → Holding w x s CURSOR c u → Reads false w.code w.entry u.pc (words top rest)

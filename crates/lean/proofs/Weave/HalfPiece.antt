@@ -220,16 +220,19 @@ module _ (w : World) (near : w.form.far ≡ false) where
           let is : step u ≡ stored (put u.memory (wrap (at + w.distance)) width v) (u.pc + 4) u = e ∙ ap (λ p. stored (put u.memory p width v) (next_pc u) u) there ∙ ap (λ p. stored (put u.memory (wrap (at + w.distance)) width v) p u) (pc_four w u (ins i.kind 0 TEMPORARY (pair i.rs2) i.imm) r.0) in
           let low_q : (q : ℕ) → is_some (get w.input q) ≡ true → q < w.base + w.distance = λ q e. w.layout.high q e in
           let top = w.layout.top in
-          inr (subst (Half w x t) (sym is) (record {
-            going = a.going;
-            standing = subst (Standing w.code w.output) is (standing_step w.code w.output w.output_fixed u a.standing);
-            sourced = a.sourced;
-            sign = a.sign;
-            distance = a.distance;
-            originals = a.originals;
-            bytes = λ q e. byte_at-put_outside u.memory (wrap (at + w.distance)) width v q (spared w s at width (λ f. f.write) so.flagged granted q (let h = low_q q e in omega (arith, h, top)) (inl (low_q q e))) ∙ a.bytes q e;
-            fixed = λ q h l. get-put_outside u.memory (wrap (at + w.distance)) width v q (spared w s at width (λ f. f.write) so.flagged granted q l (inr h)) ∙ a.fixed q h l;
-          }), subst (λ p. Reads false w.code w.entry p rest) (sym (ap (λ y. y.pc) is)) r.1)
+          inr (
+            subst (Half w x t) (sym is) (record {
+              going = a.going;
+              standing = subst (Standing w.code w.output) is (standing_step w.code w.output w.output_fixed u a.standing);
+              sourced = a.sourced;
+              sign = a.sign;
+              distance = a.distance;
+              originals = a.originals;
+              bytes = λ q e. byte_at-put_outside u.memory (wrap (at + w.distance)) width v q (spared w s at width (λ f. f.write) so.flagged granted q (let h = low_q q e in omega (arith, h, top)) (inl (low_q q e))) ∙ a.bytes q e;
+              fixed = λ q h l. get-put_outside u.memory (wrap (at + w.distance)) width v q (spared w s at width (λ f. f.write) so.flagged granted q l (inr h)) ∙ a.fixed q h l;
+            }),
+            subst (λ p. Reads false w.code w.entry p rest) (sym (ap (λ y. y.pc) is)) r.1,
+          )
 
     -- behind the guards
     both_stores : (u : State) → Holding w x s TEMPORARY ((reg s i.rs1 + w.distance) % 2 ^ 64) u → Reads false w.code w.entry u.pc (Plain i ∷ mirrored_store i ∷ rest) → Comes (Into w x (step s) rest) u 2
