@@ -1,6 +1,6 @@
 -- In the new code a branch on x0 to x13 stands before the two jumps of its ways: of the items of a form, and of its words.
 use Rattle.std.proofs.Common.{◌≡◌, ℕ, zero, suc, ◌+◌, ◌*◌, ◌%◌, ◌^◌, ◌<◌, ◌≤◌, ⊎_elim, Bool, true, false, cond, List, [], ◌∷◌, ◌++◌, length, refl, sym, ap, ◌∙◌, subst, arith}
-use Rattle.std.specs.Prelude.{◌==◌, ℤ, pos, neg_ℤ}
+use Rattle.std.specs.Prelude.{◌==◌, pos, neg_ℤ}
 use Rattle.std.proofs.lemmas.Bool.{false≢true, cases_Bool}
 use Rattle.rv_isa.specs.declared.class.Class.TheVariants as class
 use Rattle.machine.specs.Operands.{is_auipc}
@@ -9,10 +9,10 @@ use Rattle.qed_model.specs.Promise.Faults.{IsOwnBranch}
 use Rattle.qed_model.specs.Weave.Code.{sequences, pieces_of, body_of, block_items, entries_of, code_of}
 use Rattle.qed_model.specs.Weave.Placed.{go_size, instructions_from}
 use Rattle.qed_model.specs.Weave.Sequences.{pair, Reads, Form, fired_check, guard, guards, guards_of, originals, compare, check_sign, wraps, visit_word, times, visit, sweep_range, sweep, original, original_as, each_part, piece, End, Falls, Stops, links, go_on, before_end, leave, leave_as, Block, body_length, zero_from, cursor, prologue, stub}
-use Rattle.weave_core.specs.World.{Item, Mark, Plain, Constant, Go, Ins, Addi, Andi, Add, Beq, Bne, Ebreak, Jal, Jalr, Illegal, Ld, Lui, Lw, ins, class_of, Class, Fetched, Known, imm, target, ORIGINALS, LAST_ORIGINAL, PAIR_DISTANCE, DISTANCE, CURSOR, SIGNATURE, TEMPORARY, SPARE}
+use Rattle.weave_core.specs.World.{Item, Mark, Plain, Constant, Go, Ins, Addi, Andi, Add, Beq, Bne, Ebreak, Jal, Jalr, Illegal, Ld, Lui, Lw, ins, class_of, Class, Fetched, Known, imm, target, ORIGINALS, LAST_ORIGINAL, PAIR_DISTANCE, DISTANCE, CURSOR, TEMPORARY, SPARE}
 use Rattle.weave_core.specs.Blocks.{IsBody, FitsPiece, AllFit}
 use Rattle.weave_core.specs.Kinds.{is_guard}
-use Rattle.weave_core.specs.KindItems.{LandsAs, AllLand, Straight, MirrorsFit, IsEnd, end_branches, end_jumps, end_jumps_reg, end_ends, end_illegal, AllPieces, GoodEnd, AllBlocks}
+use Rattle.weave_core.specs.KindItems.{LandsAs, AllLand, MirrorsFit, end_branches, end_jumps, end_jumps_reg, end_ends, end_illegal, AllPieces, GoodEnd, AllBlocks}
 use Rattle.weave_core.specs.Lock.{Opens}
 use Rattle.weave_core.proofs.Lemmas.{guard_found, known_same}
 

@@ -1,8 +1,8 @@
 -- In the default form a branch on x0 to x13 that goes the wrong way leads to an entry whose signature is that of the other way.
-use Rattle.std.proofs.Common.{◌≡◌, ℕ, ◌+◌, ◌-◌, ◌*◌, ◌%◌, ◌^◌, ◌<◌, ◌≤◌, ⊎_elim, Bool, true, false, not, List, [], ◌∷◌, ◌++◌, length, refl, sym, ap, ◌∙◌, subst, arith, append_assoc, length-append}
-use Rattle.std.specs.Prelude.{◌⊎◌, pos, slice_index, slice_set}
+use Rattle.std.proofs.Common.{◌≡◌, ℕ, ◌+◌, ◌-◌, ◌*◌, ◌%◌, ◌^◌, ◌<◌, ◌≤◌, ⊎_elim, Bool, true, false, not, List, ◌∷◌, ◌++◌, length, refl, sym, ap, ◌∙◌, subst, arith, append_assoc, length-append}
+use Rattle.std.specs.Prelude.{◌⊎◌, pos, slice_index}
 use Rattle.std.proofs.lemmas.Bool.{cases_Bool, cases_eq}
-use Rattle.std.proofs.lemmas.List.{length-set, ext_get_or}
+use Rattle.std.proofs.lemmas.List.{ext_get_or}
 use Rattle.rv_isa.specs.declared.class.Class.TheVariants as class
 use Rattle.rv_isa.proofs.RegsLaws.{slice_index-set_reg_same, slice_index-set_reg_other, length-set_reg}
 use Rattle.machine.proofs.Lemmas.{run-more, run-last, constant_walk, set_reg-pos, over_moved}
@@ -12,12 +12,12 @@ use Rattle.qed_model.specs.Promise.OwnSteps.{Covers, KeptInStep}
 use Rattle.qed_model.specs.Weave.Blocks.{begins_at}
 use Rattle.qed_model.specs.Weave.Code.{sequences, body_of, entries_of, code_of}
 use Rattle.qed_model.specs.Weave.Placed.{go_size, instructions_from}
-use Rattle.qed_model.specs.Weave.Sequences.{Reads, Block, prologue, stub}
-use Rattle.weave_core.specs.World.{World, Quiet, Item, Go, Going, Program, start, AreStartRegs, State, reg, set_reg, holds, moved, jumped, imm, target, next_pc, Known, next, step, run, Ins, Illegal, ins, class_of, SIGNATURE, TEMPORARY}
+use Rattle.qed_model.specs.Weave.Sequences.{Block, prologue, stub}
+use Rattle.weave_core.specs.World.{World, Quiet, Go, Going, Program, start, AreStartRegs, State, reg, set_reg, holds, moved, jumped, imm, Known, next, step, run, Ins, Illegal, ins, SIGNATURE, TEMPORARY}
 use Rattle.weave_core.specs.Rows.{Mirrors}
 use Rattle.weave_core.specs.Weave.{Weave, most_before_start, stage_steps}
 use Rattle.weave_core.specs.WeaveForms.{weave_of}
-use Rattle.weave_core.specs.WeaveLaws.{Rows, Starts, EntryAt}
+use Rattle.weave_core.specs.WeaveLaws.{Rows, EntryAt}
 use Rattle.weave_core.specs.WeavePromise.{PlanOf}
 use Rattle.machine.specs.Walks.{Over}
 use Rattle.weave_core.proofs.Lemmas.{Arrives, Standing, WeaveIn, both, both_steps, branch_passed, branch_taken, form_guarded, form_rows, form_starts, go_most, go_walk, in_step, instructions_then, jumped_to, pc_four, mirrors_of, plan_in, quiet_before, skipped, skipped_grain, standing_at, step-illegal}

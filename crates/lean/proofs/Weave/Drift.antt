@@ -1,5 +1,5 @@
 -- Words that keep x14, x15 and the signature and go on, or skip a word: the run gets behind them all, or is over.
-use Rattle.std.proofs.Common.{◌≡◌, ℕ, zero, suc, ◌+◌, ◌*◌, ◌%◌, ◌^◌, ◌≤◌, ◌⊎◌, inl, inr, ⊎_elim, Bool, true, false, cond, not, List, [], ◌∷◌, ◌++◌, length, refl, sym, ap, ◌∙◌, subst, arith}
+use Rattle.std.proofs.Common.{◌≡◌, ℕ, zero, suc, ◌+◌, ◌*◌, ◌%◌, ◌^◌, ◌≤◌, ◌⊎◌, inl, inr, Bool, true, false, cond, not, List, [], ◌∷◌, ◌++◌, length, refl, sym, ap, ◌∙◌, subst, arith}
 use Rattle.std.specs.Prelude.{◌==◌, ◌&&◌, slice_index}
 use Rattle.std.proofs.lemmas.Bool.{ne_eqb, false≢true}
 use Rattle.rv_isa.specs.declared.class.Class.TheVariants as class
@@ -9,12 +9,12 @@ use Rattle.machine.specs.Table.{ins, Ins}
 use Rattle.qed_model.specs.Promise.Kept.{is_trapped}
 use Rattle.qed_model.specs.Weave.Forms.{mirror_of}
 use Rattle.qed_model.specs.Weave.Placed.{sum_of_sizes}
-use Rattle.qed_model.specs.Weave.Lean.{cost, check_distance, check_way, guard_value, mirrored_store}
+use Rattle.qed_model.specs.Weave.Lean.{cost, check_distance, guard_value, mirrored_store}
 use Rattle.qed_model.specs.Weave.LeanCode.{is_store, store_part, both_parts, parts_with, piece}
-use Rattle.qed_model.specs.Weave.Sequences.{Reads, fired_check, guard, guards, guards_of, links, original, original_as, mirrored, mirror_as, each_part, LAST_ORIGINAL, PAIR_DISTANCE, DISTANCE, CURSOR, SIGNATURE, TEMPORARY, pair}
+use Rattle.qed_model.specs.Weave.Sequences.{Reads, guard, guards_of, links, original, original_as, each_part, LAST_ORIGINAL, PAIR_DISTANCE, DISTANCE, CURSOR, SIGNATURE, TEMPORARY, pair}
 use Rattle.machine.specs.Operands.{is_auipc}
 use Rattle.weave_core.specs.Blocks.{IsLowAs, FitsPiece, AllFit}
-use Rattle.weave_core.specs.World.{World, Item, Mark, Plain, Constant, Go, Going, grants, number, put, wrapped, holds, width_of, loaded, State, reg, moved, stored, trapped, jumped, imm, place, result, next_pc, execute, Known, next, step, run, target, Kind, Class, class_of, set_reg}
+use Rattle.weave_core.specs.World.{World, Item, Plain, Constant, Going, grants, number, put, width_of, loaded, State, reg, moved, stored, trapped, imm, place, result, next_pc, execute, Known, next, step, run, target, Class, class_of, set_reg}
 use Rattle.lean.specs.Strayed.{IsOver}
 use Rattle.lean.proofs.Weave.Piece.{store_class}
 pub use Rattle.lean.proofs.Weave.Carry.{keeps, keeps_as, Keep, keep_append, keep_guard, keep_guards, keep_guards_of, keep_way, keep_distance, keep_mirror, size_cost, Carried, carry, carry_from, Comes, comes_none, comes_over, comes_one, comes_more, comes_behind, comes_on}

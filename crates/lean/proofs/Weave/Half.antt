@@ -1,21 +1,18 @@
 -- The original half of the output alone has the input's values, whatever pairs, counter and duplicate half have: what words do to it.
-use Rattle.std.proofs.Common.{◌≡◌, ℕ, zero, suc, ◌+◌, ◌*◌, ◌%◌, ◌^◌, ◌<◌, ◌≤◌, ◌⊎◌, inl, inr, ⊎_elim, Bool, true, false, cond, not, List, [], ◌∷◌, ◌++◌, length, is_some, refl, sym, ap, ◌∙◌, subst, arith, append_assoc}
-use Rattle.std.specs.Prelude.{◌==◌, ◌&&◌, ◌||◌, nat_le, nat_lt, pos, slice_index}
-use Rattle.std.proofs.lemmas.Bool.{and_parts, or_cases, eqb-true, eq-eqb, leb-true, cases_eq, false≢true, ne_eqb, not-true}
+use Rattle.std.proofs.Common.{◌≡◌, ℕ, zero, suc, ◌+◌, ◌*◌, ◌^◌, ◌<◌, ◌≤◌, ◌⊎◌, inl, inr, ⊎_elim, Bool, true, false, cond, not, List, ◌++◌, length, is_some, refl, sym, ap, ◌∙◌, subst, arith}
+use Rattle.std.specs.Prelude.{◌==◌, ◌&&◌, ◌||◌, nat_le, slice_index}
+use Rattle.std.proofs.lemmas.Bool.{and_parts, or_cases, eqb-true, eq-eqb, leb-true, cases_eq, false≢true, not-true}
 use Rattle.rv_isa.specs.declared.class.Class.TheVariants as class
 use Rattle.machine.specs.declared.outcome.Cause.TheVariants as cause
 use Rattle.machine.specs.declared.outcome.Cause.{Cause}
-use Rattle.machine.specs.Table.{ins, Ins, Auipc, Beq}
-use Rattle.qed_model.specs.Promise.Kept.{is_trapped, NotTrapped}
-use Rattle.qed_model.specs.Weave.Halves.{Flagged}
-use Rattle.qed_model.specs.Weave.Sequences.{Reads, original, original_as, guard, guards_of, fired_check, pair, LAST_ORIGINAL, PAIR_DISTANCE, DISTANCE, CURSOR, SIGNATURE, TEMPORARY, SPARE}
+use Rattle.machine.specs.Table.{Ins}
+use Rattle.qed_model.specs.Promise.Kept.{is_trapped}
+use Rattle.qed_model.specs.Weave.Sequences.{Reads, original, LAST_ORIGINAL, DISTANCE, SIGNATURE}
 use Rattle.qed_model.specs.Weave.Lean.{cost}
-use Rattle.machine.specs.Operands.{is_auipc}
-use Rattle.weave_core.specs.Blocks.{IsLowAs, FitsPiece}
 use Rattle.weave_core.specs.Rows.{Sourced}
-use Rattle.weave_core.specs.World.{World, Item, Mark, Plain, Constant, Go, Going, get, byte_at, grants, number, put, width_of, loaded, wrap, State, reg, set_reg, moved, stored, trapped, imm, place, result, next_pc, execute, Fetched, Known, next, step, run, target, Class, class_of}
+use Rattle.weave_core.specs.World.{World, Item, Going, get, byte_at, grants, number, width_of, loaded, State, reg, set_reg, moved, trapped, place, result, next_pc, execute, Known, next, step, run, Class, class_of}
 use Rattle.lean.specs.Strayed.{IsOver}
-use Rattle.lean.proofs.Weave.Carry.{Keep, keeps, keeps_as, keep_guard, Carried, carry, Comes, comes_one, comes_more, comes_behind, comes_on, comes_over, one_run, slice_index-set_reg_other, slice_index-set_reg_same, slice_index-set_reg_zero, length-set_reg, step-class, Over, over_moved, known_at, auipc_is, IsBodyWord, body_computes, body_loads, body_stores, body_fences, body_word, pc_four, Standing, standing_step, flagged_moved}
+use Rattle.lean.proofs.Weave.Carry.{Keep, keeps, keeps_as, Carried, carry, Comes, slice_index-set_reg_other, slice_index-set_reg_same, slice_index-set_reg_zero, length-set_reg, step-class, Over, known_at, pc_four, Standing}
 
 -- ---- registers
 -- x0, x15, and x17 to x31

@@ -1,17 +1,17 @@
 -- The end of a test, where the original half alone has the input's values: the run ends with them, or is over.
-use Rattle.std.proofs.Common.{◌≡◌, ℕ, zero, suc, ◌+◌, ◌*◌, ◌/◌, ◌%◌, ◌^◌, ◌<◌, ◌≤◌, ◌⊎◌, inl, inr, ⊎_elim, Bool, true, false, cond, not, List, [], ◌∷◌, ◌++◌, length, refl, sym, ap, ◌∙◌, subst, arith, append_assoc}
-use Rattle.std.specs.Prelude.{◌-◌, pos, neg_ℤ, slice_index}
+use Rattle.std.proofs.Common.{◌≡◌, ℕ, zero, suc, ◌+◌, ◌*◌, ◌/◌, ◌%◌, ◌^◌, ◌<◌, ◌≤◌, inl, inr, Bool, true, false, cond, not, List, [], ◌∷◌, ◌++◌, refl, sym, ap, ◌∙◌, subst, arith, append_assoc}
+use Rattle.std.specs.Prelude.{◌-◌, pos, neg_ℤ}
 use Rattle.std.proofs.lemmas.Bool.{ne_eqb, eq-eqb}
 use Rattle.rv_isa.specs.declared.class.Class.TheVariants as class
 use Rattle.machine.specs.Table.{ins, Ins, Ld, Add, Addi, Beq, Bne}
 use Rattle.machine.specs.declared.outcome.Outcome.TheVariants.{Ended}
 use Rattle.qed_model.specs.Weave.Lean.{check_distance, leave_as, cost}
-use Rattle.qed_model.specs.Weave.Sequences.{Reads, fired_check, check_sign, compare, sweep, before_end, LAST_ORIGINAL, DISTANCE, CURSOR, SIGNATURE, TEMPORARY, SPARE}
+use Rattle.qed_model.specs.Weave.Sequences.{Reads, fired_check, check_sign, compare, sweep, before_end, DISTANCE, CURSOR, TEMPORARY, SPARE}
 use Rattle.weave_core.specs.Kinds.{originals}
 use Rattle.weave_core.specs.Rows.{Sourced}
 use Rattle.weave_core.specs.WeaveLaws.{Holds}
-use Rattle.weave_core.specs.World.{World, GoodSpans, AllBelow, Item, Plain, Constant, State, reg, set_reg, moved, stopped, result, next_pc, holds, Known, step, run, class_of}
-use Rattle.lean.proofs.Weave.Carry.{Keep, keeps, keep_guards, keep_distance, Comes, comes_none, comes_one, comes_more, comes_behind, comes_on, one_run, run-more, slice_index-set_reg_other, slice_index-set_reg_same, length-set_reg, Over, over_moved, known_at, pc_four, constant_walk, set_reg-pos, step-compute, addi_value, branch_taken, branch_passed, sets_const, step-end, const_signed}
+use Rattle.weave_core.specs.World.{World, GoodSpans, AllBelow, Item, Plain, Constant, State, reg, set_reg, moved, stopped, next_pc, holds, Known, step, run, class_of}
+use Rattle.lean.proofs.Weave.Carry.{keeps, keep_guards, keep_distance, Comes, comes_none, comes_one, comes_more, comes_behind, comes_on, one_run, slice_index-set_reg_other, slice_index-set_reg_same, length-set_reg, known_at, pc_four, constant_walk, set_reg-pos, step-compute, addi_value, branch_taken, branch_passed, sets_const, step-end, const_signed}
 use Rattle.lean.proofs.Weave.Half.{is_spare, but, Half, Into, Holding, half_over, half_spare, half_moved, half_carry, holding_keeps}
 use Rattle.lean.proofs.Weave.HalfPiece.{spare_pair, to_far, to_near, compares}
 

@@ -1,5 +1,5 @@
 -- An entry, where the original half alone has the input's values: its tick passes, or the check returns to it, and then it passes.
-use Rattle.std.proofs.Common.{◌≡◌, ℕ, zero, suc, ◌+◌, ◌*◌, ◌%◌, ◌^◌, ◌<◌, ◌≤◌, ◌⊎◌, inl, inr, ⊎_elim, Bool, true, false, cond, List, [], ◌∷◌, ◌++◌, length, refl, sym, ap, ◌∙◌, subst, arith, append_assoc}
+use Rattle.std.proofs.Common.{◌≡◌, ℕ, zero, suc, ◌+◌, ◌*◌, ◌%◌, ◌^◌, ◌<◌, ◌≤◌, ◌⊎◌, inl, inr, ⊎_elim, Bool, true, false, cond, List, [], ◌∷◌, ◌++◌, refl, sym, ap, ◌∙◌, subst, arith}
 use Rattle.std.specs.Prelude.{◌-◌, pos, slice_index}
 use Rattle.std.proofs.lemmas.Bool.{cases_lt, cases_eq}
 use Rattle.machine.specs.Table.{ins, Beq, Slli, Addi, Sub}
@@ -7,15 +7,15 @@ use Rattle.machine.specs.Offsets.{distance_between}
 use Rattle.qed_model.specs.Weave.Lean.{tick, enter, call_at, check, called, check_distance, begun, done, first_word, look_up, look_again, cost}
 use Rattle.qed_model.specs.Weave.LeanBounds.{entry_steps, call_steps}
 use Rattle.qed_model.specs.Weave.LeanCode.{Lean}
-use Rattle.qed_model.specs.Weave.Sequences.{Reads, fired_check, check_sign, compare, visit, visit_word, wraps, times, DISTANCE, CURSOR, SIGNATURE, TEMPORARY, SPARE}
+use Rattle.qed_model.specs.Weave.Sequences.{Reads, check_sign, compare, visit, visit_word, wraps, CURSOR, SIGNATURE, TEMPORARY}
 use Rattle.weave_core.specs.Blocks.{IsEntryOf, TableAt}
 use Rattle.weave_core.specs.Kinds.{originals}
-use Rattle.weave_core.specs.World.{World, Item, Plain, Constant, State, reg, set_reg, moved, run, wrapped}
+use Rattle.weave_core.specs.World.{World, Item, Plain, Constant, State, reg, set_reg, moved, wrapped}
 use Rattle.lean.specs.Woven.{LeanIn}
 use Rattle.lean.proofs.Weave.Carry.{Keep, keep_append, keep_guards, keep_distance, Comes, comes_none, comes_more, comes_behind, comes_on, slice_index-set_reg_other, slice_index-set_reg_same, Over, over_moved, AllTemps, Tabled, find, found, entry_leap, sign_walk, sets_compute, addi_value, writes, writes_long, writes_out}
 use Rattle.lean.proofs.Weave.Chain.{read_back}
 use Rattle.lean.proofs.Weave.Check.{again, again_set, slli_value as slli_12}
-use Rattle.lean.proofs.Weave.Half.{is_spare, Half, Into, half_over, half_regs, half_spare, half_moved, half_carry}
+use Rattle.lean.proofs.Weave.Half.{is_spare, Half, Into, half_over, half_regs, half_spare, half_carry}
 use Rattle.lean.proofs.Weave.HalfPiece.{spare_pair, to_far, to_near}
 use Rattle.lean.proofs.Weave.Tick.{shifted, jump_at, pass_row, call_row}
 

@@ -1,30 +1,28 @@
 -- A leave, where the original half alone has the input's values: the next entry has them too, or the run is over.
-use Rattle.std.proofs.Common.{◌≡◌, ℕ, zero, suc, ◌+◌, ◌*◌, ◌/◌, ◌%◌, ◌^◌, ◌<◌, ◌≤◌, ◌⊎◌, inl, inr, ⊎_elim, Bool, true, false, cond, not, List, [], ◌∷◌, ◌++◌, length, refl, sym, ap, ◌∙◌, subst, arith, append_assoc}
-use Rattle.std.specs.Prelude.{◌==◌, pos, max, slice_index}
-use Rattle.std.proofs.lemmas.Bool.{ne_eqb, cases_eq, false≢true}
+use Rattle.std.proofs.Common.{◌≡◌, ℕ, ◌+◌, ◌%◌, ◌^◌, ◌<◌, ◌≤◌, ◌⊎◌, inl, inr, ⊎_elim, Bool, true, false, cond, not, List, [], ◌∷◌, ◌++◌, refl, sym, ap, ◌∙◌, subst, arith, append_assoc}
+use Rattle.std.specs.Prelude.{pos, max}
 use Rattle.std.proofs.lemmas.List.{append-nil}
 use Rattle.std.proofs.Math.Nat.{le-max_left, le-max_right}
 use Rattle.rv_isa.specs.declared.class.Class.TheVariants as class
-use Rattle.machine.specs.Table.{ins, Ins, Kind}
-use Rattle.machine.specs.Walks.{Walk}
-use Rattle.qed_model.specs.Promise.Kept.{NotTrapped, LeadsToReached}
-use Rattle.qed_model.specs.Weave.Lean.{turn, goes, opposite, check_way, taken, turn_leap, take_target, called, check_distance, look_up, look_again, leave_as, leave_cost_as, cost}
+use Rattle.machine.specs.Table.{ins, Ins}
+use Rattle.qed_model.specs.Promise.Kept.{NotTrapped}
+use Rattle.qed_model.specs.Weave.Lean.{turn, goes, opposite, check_way, taken, take_target, called, check_distance, look_up, look_again, leave_as, leave_cost_as, cost}
 use Rattle.qed_model.specs.Weave.LeanCode.{Lean, fall_to}
 use Rattle.qed_model.specs.Weave.Placed.{sum_of_sizes}
-use Rattle.qed_model.specs.Weave.Sequences.{Reads, guard, links, LAST_ORIGINAL, PAIR_DISTANCE, DISTANCE, CURSOR, SIGNATURE, TEMPORARY, pair}
-use Rattle.weave_core.specs.Blocks.{IsEntryOf, Goes, TableAt}
+use Rattle.qed_model.specs.Weave.Sequences.{Reads, guard, links, LAST_ORIGINAL, CURSOR, TEMPORARY, pair}
+use Rattle.weave_core.specs.Blocks.{Goes, TableAt}
 use Rattle.weave_core.specs.Rows.{Sourced}
-use Rattle.weave_core.specs.World.{World, Item, Mark, Plain, Constant, Go, State, reg, set_reg, moved, imm, next_pc, Known, step, run, target, class_of, holds, byte_at}
+use Rattle.weave_core.specs.World.{World, Item, Mark, Go, State, reg, set_reg, moved, next_pc, Known, step, run, target, class_of, holds, byte_at}
 use Rattle.lean.specs.Woven.{LeanIn}
-use Rattle.lean.proofs.Weave.Carry.{Keep, keep_guard, keep_distance, keep_way, Comes, comes_none, comes_more, comes_behind, comes_on, over_moved, flagged_moved, AllTemps, Branches, branch_step, branch_to, branch_taken, branch_passed, jump_step, go_walk, go_most, leap_step, Leaps, aim, linked, linked_out, links_sets, writes, writes_long, writes_out}
+use Rattle.lean.proofs.Weave.Carry.{keep_guard, keep_distance, keep_way, Comes, comes_none, comes_more, comes_behind, comes_on, Branches, branch_step, branch_taken, branch_passed, jump_step, go_walk, go_most, leap_step, Leaps, aim, linked, linked_out, links_sets, writes, writes_long}
 use Rattle.lean.proofs.Weave.Chain.{items, effects, read_back, all_temps, chain, cost_append}
 use Rattle.lean.proofs.Weave.Costs.{guard_most, way_most}
-use Rattle.lean.proofs.Weave.Half.{is_spare, Half, Into, Holding, half_over, half_regs, half_spare, half_moved, half_original, half_carry}
+use Rattle.lean.proofs.Weave.Half.{is_spare, Half, Into, half_over, half_regs, half_spare, half_moved, half_original, half_carry}
 use Rattle.lean.proofs.Weave.HalfEnter.{look_half, temps_low}
 use Rattle.lean.proofs.Weave.HalfPiece.{spare_pair, to_far, to_near, compares}
 use Rattle.lean.proofs.Weave.Leap.{turn_ops, turn_gives, aim_ops, aim_gives, signed}
 use Rattle.lean.proofs.Weave.Leave.{far_enough, beyond_taken}
-use Rattle.lean.proofs.Weave.Turn.{turn_any, turn_row}
+use Rattle.lean.proofs.Weave.Turn.{turn_row}
 use Rattle.lean.proofs.Weave.Ways.{opposite_is}
 
 module _ (w : World) (l : Lean) (leader : ℕ → Bool) (x : LeanIn w l leader) where

@@ -1,23 +1,22 @@
 -- A piece, where the original half alone has the input's values: behind it the original half has those behind its instructions.
 use Rattle.std.proofs.Common.{◌≡◌, ℕ, zero, suc, ◌+◌, ◌*◌, ◌%◌, ◌^◌, ◌<◌, ◌≤◌, ◌⊎◌, inl, inr, ⊎_elim, Bool, true, false, cond, not, List, [], ◌∷◌, ◌++◌, length, is_some, refl, sym, ap, ◌∙◌, subst, arith, append_assoc, length-append}
-use Rattle.std.specs.Prelude.{◌==◌, ◌-◌, pos, nat_lt, slice_index}
+use Rattle.std.specs.Prelude.{◌==◌, ◌-◌, pos, nat_lt}
 use Rattle.std.proofs.lemmas.Bool.{and_from, cases_eq, cases_lt, false≢true, le-leb, ne_eqb, or_right}
 use Rattle.rv_isa.specs.declared.class.Class.TheVariants as class
 use Rattle.machine.specs.declared.outcome.Cause.TheVariants as cause
 use Rattle.machine.specs.Table.{ins, Ins, Auipc, Beq, Add, Sub}
 use Rattle.machine.specs.Operands.{is_auipc}
-use Rattle.machine.specs.Walks.{Walk}
 use Rattle.qed_model.specs.Promise.Kept.{is_trapped, NotTrapped}
 use Rattle.qed_model.specs.Weave.Forms.{mirror_of}
 use Rattle.qed_model.specs.Weave.Lean.{cost, guard_value, mirrored_store}
 use Rattle.qed_model.specs.Weave.LeanCode.{is_store, store_part, both_parts, parts_with, piece}
-use Rattle.qed_model.specs.Weave.Sequences.{Reads, original, original_as, guard, fired_check, pair, each_part, LAST_ORIGINAL, PAIR_DISTANCE, DISTANCE, SIGNATURE, TEMPORARY, SPARE}
+use Rattle.qed_model.specs.Weave.Sequences.{Reads, original, original_as, guard, fired_check, pair, each_part, LAST_ORIGINAL, DISTANCE, TEMPORARY, SPARE}
 use Rattle.weave_core.specs.Blocks.{IsLowAs, FitsPiece, AllFit}
 use Rattle.weave_core.specs.Rows.{Sourced}
-use Rattle.weave_core.specs.World.{World, Item, Plain, Constant, Going, get, allows, byte_at, byte_of, offset, grants, number, put, width_of, loaded, wrap, State, reg, set_reg, moved, stored, trapped, imm, place, result, next_pc, execute, holds, Known, next, step, run, target, Class, class_of, HasAt}
+use Rattle.weave_core.specs.World.{World, Item, Plain, Constant, Going, get, byte_at, byte_of, offset, grants, number, put, width_of, loaded, wrap, State, reg, set_reg, moved, stored, trapped, imm, place, result, next_pc, execute, holds, Known, next, step, run, target, Class, class_of, HasAt}
 use Rattle.lean.specs.Strayed.{IsOver}
 use Rattle.lean.proofs.Weave.Chain.{cost_append, no_break}
-use Rattle.lean.proofs.Weave.Carry.{Keep, keep_append, keep_guard, keep_mirror, carry, Comes, comes_none, comes_over, comes_one, comes_more, comes_behind, comes_on, one_run, slice_index-set_reg_other, slice_index-set_reg_same, length-set_reg, step-class, step-break, Over, over_moved, known_at, run-more, run-none, auipc_is, IsBodyWord, body_computes, body_loads, body_stores, body_fences, body_word, pc_four, Standing, standing_step, step-compute, step-load, step-store, get-put_outside, byte_at-put_outside, same_number, byte_after, grants-weaker, some-flags, untouched, allows-flags, auipc_step, result_alike, step-fence, load_granted, store_granted, mapped_in, raised_place, spared, over_stored, source_run, width_le, add_result, sub_result, sets_const, sets_compute, branch_taken, branch_passed, equal_holds, not_trapped_le, has_front, has_rest, const_signed}
+use Rattle.lean.proofs.Weave.Carry.{Keep, keep_append, keep_guard, keep_mirror, Comes, comes_none, comes_over, comes_one, comes_more, comes_behind, comes_on, one_run, slice_index-set_reg_other, slice_index-set_reg_same, length-set_reg, step-class, step-break, Over, known_at, run-more, auipc_is, IsBodyWord, body_computes, body_loads, body_stores, body_fences, body_word, pc_four, Standing, standing_step, step-compute, step-load, step-store, get-put_outside, byte_at-put_outside, same_number, byte_after, grants-weaker, some-flags, untouched, allows-flags, auipc_step, result_alike, step-fence, load_granted, store_granted, mapped_in, raised_place, spared, source_run, width_le, add_result, sub_result, sets_const, sets_compute, branch_taken, branch_passed, equal_holds, not_trapped_le, has_front, has_rest, const_signed}
 use Rattle.lean.proofs.Weave.Half.{is_spare, but, Half, Into, Holding, IntoHolding, half_over, half_spare, half_moved, half_original, half_carry, holding_carry}
 
 -- no store

@@ -1,5 +1,5 @@
 -- From an entry where the original half alone has the input's values: the run comes to the input's states, or is over.
-use Rattle.std.proofs.Common.{◌≡◌, ◌↔◌, ℕ, zero, suc, ◌+◌, ◌*◌, ◌%◌, ◌^◌, ◌<◌, ◌≤◌, ◌⊎◌, inl, inr, ⊎_elim, Bool, true, false, List, [], ◌∷◌, ◌++◌, length, refl, sym, ap, ◌∙◌, subst, arith, append_assoc}
+use Rattle.std.proofs.Common.{◌≡◌, ℕ, zero, suc, ◌+◌, ◌*◌, ◌^◌, ◌<◌, ◌≤◌, ◌⊎◌, inl, inr, ⊎_elim, Bool, true, false, List, [], ◌∷◌, ◌++◌, length, refl, sym, ap, ◌∙◌, subst, arith, append_assoc}
 use Rattle.std.specs.Prelude.{◌-◌}
 use Rattle.std.proofs.lemmas.Bool.{and_parts, eqb-true, cases_lt}
 use Rattle.std.proofs.Math.Nat.{mul-le-mul_right}
@@ -8,16 +8,15 @@ use Rattle.machine.specs.Members.{Among}
 use Rattle.machine.specs.Table.{Ins}
 use Rattle.qed_model.specs.Promise.Kept.{NotTrapped, IsSteady, LeadsToReached}
 use Rattle.qed_model.specs.Weave.Blocks.{begins_at}
-use Rattle.qed_model.specs.Weave.Code.{pieces_of, body_of}
+use Rattle.qed_model.specs.Weave.Code.{pieces_of}
 use Rattle.qed_model.specs.Weave.Lean.{leave, leave_as, leave_cost_as, goes, turn, cost}
-use Rattle.qed_model.specs.Weave.LeanBounds.{entry_steps}
-use Rattle.qed_model.specs.Weave.LeanCode.{Lean, fall_to, body_steps, block_steps, end_at}
-use Rattle.qed_model.specs.Weave.Sequences.{Reads, End, Falls, Stops, Block, body_length, before_end, LAST_ORIGINAL}
+use Rattle.qed_model.specs.Weave.LeanCode.{Lean, fall_to}
+use Rattle.qed_model.specs.Weave.Sequences.{Reads, End, Falls, Stops, Block, body_length, before_end}
 use Rattle.weave_core.specs.Blocks.{EndStands, Leaves, Full}
 use Rattle.weave_core.specs.Rows.{Sourced}
 use Rattle.weave_core.specs.Weave.{Weave}
 use Rattle.weave_core.specs.WeaveLaws.{PiecesAt, Met, stops}
-use Rattle.weave_core.specs.World.{World, Item, Program, Known, State, step, run, target, Class, class_of, HasAt}
+use Rattle.weave_core.specs.World.{World, Item, Program, Known, State, step, run, target, Class, class_of}
 use Rattle.lean.specs.Woven.{LeanPlan, lean_weave_of}
 use Rattle.lean.proofs.Weave.Blocks.{begun, begins}
 use Rattle.lean.proofs.Weave.Carry.{Comes, comes_none, comes_map, comes_more, comes_on, known_at, run-more, run-none, one_run, aim, leap_step, met_going, met_ended, met_same, no_code, not_trapped_le, run-ended, source_run, steady_le, steady_rest, step-illegal}

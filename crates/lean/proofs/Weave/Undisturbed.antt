@@ -1,26 +1,22 @@
 -- The law: from the entry of a block the original half alone leads the run along the input's run.
-use Rattle.std.proofs.Common.{◌≡◌, ◌↔◌, ℕ, zero, suc, ◌+◌, ◌*◌, ◌/◌, ◌%◌, ◌^◌, ◌<◌, ◌≤◌, ◌⊎◌, inl, inr, ⊎_elim, Bool, true, false, List, [], ◌∷◌, length, is_some, refl, sym, ap, ◌∙◌, subst, arith}
+use Rattle.std.proofs.Common.{◌≡◌, ℕ, zero, suc, ◌+◌, ◌*◌, ◌/◌, ◌≤◌, ◌⊎◌, inl, inr, ⊎_elim, List, [], ◌∷◌, length, is_some, refl, sym, ap, ◌∙◌, subst, arith}
 use Rattle.std.specs.Prelude.{◌-◌}
 use Rattle.std.proofs.lemmas.Bool.{cases_eq}
 use Rattle.std.proofs.Math.Nat.{mul-le-mul_left}
 use Rattle.qed_model.specs.Promise.Kept.{after_input, Halves}
-use Rattle.qed_model.specs.Weave.Blocks.{begins_at}
 use Rattle.qed_model.specs.Weave.LeanCode.{Lean}
 use Rattle.qed_model.specs.Weave.Lean.{cost}
-use Rattle.qed_model.specs.Weave.Sequences.{Block, compare, visit, visit_word, wraps, ORIGINALS, LAST_ORIGINAL}
-use Rattle.tests.specs.Admission.DataRanges.{word_count}
-use Rattle.weave_core.specs.Describes.{Describes}
+use Rattle.qed_model.specs.Weave.Sequences.{Block, compare, visit, visit_word, wraps, ORIGINALS}
 use Rattle.weave_core.specs.Leaving.{sweep_cost}
 use Rattle.weave_core.specs.Rows.{Sourced}
 use Rattle.weave_core.specs.WeaveLaws.{Met}
 use Rattle.weave_core.specs.World.{World, GoodSpans, Program, Going, start, zeros, State, get, flags_at, reg, run}
 use Rattle.lean.specs.Undisturbed.{HasOriginals, ComesTo, Undisturbed, undisturbed_piece, undisturbed_ends}
 use Rattle.lean.specs.Woven.{LeanPlan, LeanUndisturbed}
-use Rattle.lean.proofs.Weave.Carry.{Comes, run-more, Standing, standing_run, some-flags, first_sourced, steady_rest}
+use Rattle.lean.proofs.Weave.Carry.{Comes, run-more, standing_run, some-flags, first_sourced, steady_rest}
 use Rattle.lean.proofs.Weave.Chain.{cost_append}
 use Rattle.lean.proofs.Weave.Half.{Half}
 use Rattle.lean.proofs.Weave.HalfEnd.{sweep_most, end_most}
-use Rattle.lean.proofs.Weave.HalfEnter.{check_most}
 use Rattle.lean.proofs.Weave.HalfRun.{follow, round_most, total}
 use Rattle.lean.proofs.Weave.Inside.{sized_run}
 
