@@ -1,36 +1,36 @@
 -- The known test with a loop in the lean form, with entries that test the signature: it has words, and its promises on
--- jumps that land wrong and on x14 are at work, with computed runs.
-use Rattle.std.proofs.Common.{◌≡◌, ◌⊎◌, inl, inr, ⊎_elim, ℕ, ◌+◌, ◌*◌, ◌%◌, ◌<◌, ◌≤◌, Bool, true, false, not, List, [], ◌∷◌, Some, None, refl, sym, ap, ◌∙◌, arith}
-use Rattle.std.specs.Prelude.{pos, ◌==◌, ◌||◌}
+-- jumps that land wrong, on x14 and on the duplicate half are at work, with computed runs.
+use Rattle.std.proofs.Common.{◌≡◌, ◌⊎◌, inl, inr, ⊎_elim, ℕ, zero, suc, ◌+◌, ◌*◌, ◌%◌, ◌≤◌, true, false, not, List, [], ◌∷◌, Some, None, is_some, refl, sym, ap, ◌∙◌, subst, arith}
+use Rattle.std.specs.Prelude.{pos, slice_index, ◌==◌, ◌||◌}
 use Rattle.std.proofs.lemmas.Bool.{false≢true, eqb-true, eq-eqb, or_cases, not-true}
 use Rattle.rv_isa.specs.declared.class.Class.TheVariants as class
 use Rattle.tests.specs.declared.options.Options.{Options}
 use Rattle.tests.specs.declared.options.Entries.TheVariants as entries
-use Rattle.tests.specs.Admission.CodeWords.{is_code}
 use Rattle.tests.specs.Admission.Leaders.{HasIndirect, is_indirect, IsLeader, Begins, Entry, Target, After, Named, Reached, Even}
 use Rattle.tests.specs.Admission.Refusals.{IsAdmitted}
 use Rattle.tests.specs.Elf.FileRead.{file_read}
 use Rattle.machine.specs.Loading.{loaded_file}
 use Rattle.machine.proofs.Lemmas.{every_all}
 use Rattle.qed_model.specs.Weave.Sequences.{Block, End, Falls, Stops}
-use Rattle.qed_model.specs.Weave.Blocks.{AreBlocks, IsBlockOf, IsLeaderBlock, IsMarked, StopsAt}
+use Rattle.qed_model.specs.Weave.Blocks.{AreBlocks, IsBlockOf, IsMarked, StopsAt, begins_at}
 use Rattle.qed_model.specs.Weave.SoundOptions.{AreSoundOptions}
 use Rattle.qed_model.specs.Weave.Placed.{placed}
 use Rattle.qed_model.specs.Weave.LeanCode.{lean_items}
 use Rattle.qed_model.specs.Weave.LeanBounds.{lean_bounds}
 use Rattle.qed_model.specs.Promise.Faults.{FaultsFound, gives}
 use Rattle.qed_model.specs.Promise.InStep.{SettlesWithin}
-use Rattle.qed_model.specs.Promise.Kept.{after_output}
+use Rattle.qed_model.specs.Promise.Kept.{after_input, after_output}
 use Rattle.qed_model.specs.Promise.Landed.{placed_at}
 use Rattle.qed_model.proofs.ExampleCode as code
 use Rattle.qed_model.proofs.Lemmas.{defaults, covers_steady}
-use Rattle.weave_core.specs.World.{Program, memory_of, start, zeros, Going, Fired, Ins, Addi, Known, State, class_of, HasAt, fetched_at, moved, next, next_pc, reg, run, set_reg, DISTANCE, CURSOR, SIGNATURE, execute, jumped, computed_value, value, holds}
+use Rattle.weave_core.specs.World.{Program, memory_of, start, zeros, Going, Fired, Ins, Addi, Known, State, byte_at, class_of, get, HasAt, fetched_at, moved, next, next_pc, reg, run, set_reg, DISTANCE, CURSOR, SIGNATURE, execute, jumped, computed_value, value, holds}
 use Rattle.weave_core.proofs.FileOfItems as of
 use Rattle.tests.proofs.Lemmas.{zeros_start}
 use Rattle.lean.specs.Tests.{AreLeanBlocks, IsLeanTest, lean_file}
 use Rattle.machine.specs.Members.{Among, Every}
 use Rattle.machine.specs.Table.{Ecall, ins}
 use Rattle.lean.specs.Strayed.{IsInBlock, Strayed, Displaced, Adrift, Stopped, HasCount, with_distance, displaced_steps, code_in, entry_in}
+use Rattle.lean.specs.Undisturbed.{Undisturbed, HasOriginals, ComesTo, undisturbed_piece, undisturbed_ends}
 use Rattle.lean.proofs.Weave.Tests as lean
 use Rattle.weave_examples.proofs.KnownFiles.{loop, loop_sound}
 use Rattle.weave_examples.proofs.LoopExample.{loop_code, loop_known, loop_blocks, loop_each, loop_are}
@@ -191,6 +191,59 @@ adrift_there = adrift.stops zeros 31 0x10000 7 zeros_start goes_on refl counted 
 adrift_fires : (run (with_distance 7 (placed_at 0x1314c (after_output lean_output zeros 31))) 11).outcome ≡ Fired
 unfolding execute jumped computed_value value holds
 adrift_fires = ap (λ s. (run (with_distance 7 (placed_at 0x1314c s)) 11).outcome) at_entry ∙ ap (λ s. s.outcome) (runs 11 (state_of lean_output (set_reg DISTANCE 7 first_entry) 0x1314c Going) refl refl refl)
+
+-- ---- anything in the duplicate half
+undisturbed : Undisturbed loop_input lean_output none 0x10000 4096 (entry_in loop options 1200 loop_blocks) loop_blocks (undisturbed_piece true 0 1) (undisturbed_ends [])
+undisturbed = lean.tests_undisturbed loop options 1200 loop_blocks lean_words.0 lean_words.1 none (λ e a h. absurd (false≢true h))
+
+-- at the entry of 0x10000 with a count of 2047, all pairs, x30 and x31 are 5
+abbrev all_five : List ℕ
+all_five = 0 ∷ 0 ∷ 0 ∷ 0 ∷ 0 ∷ 0 ∷ 0 ∷ 0 ∷ 0 ∷ 0 ∷ 0 ∷ 0 ∷ 0 ∷ 0 ∷ 4096 ∷ 2047 ∷ 0x10000 ∷ 5 ∷ 5 ∷ 5 ∷ 5 ∷ 5 ∷ 5 ∷ 5 ∷ 5 ∷ 5 ∷ 5 ∷ 5 ∷ 5 ∷ 5 ∷ 5 ∷ 5 ∷ []
+
+input_starts : after_input loop_input 0 ≡ start loop_input zeros
+unfolding run
+input_starts = refl
+
+originals : HasOriginals loop_input lean_output 0x10000 4096 (entry_in loop options 1200 loop_blocks) (start loop_input zeros) (state_of lean_output all_five 0x1314c Going)
+originals = let both = of.both loop options sound loop_sound.loads admitted loop_blocks are false true (lean_items loop options 1200 loop_blocks) lean_words.0 (lean.are_items loop options 1200 loop_blocks cut lean_words.0 lean_words.1) none (λ e a h. absurd (false≢true h)) in record {
+  going = refl;
+  here = refl;
+  originals = low;
+  bytes = λ q e. ap (λ m. byte_at m q) both.output ∙ both.bytes q (ap (λ m. is_some (get m q)) (sym both.input) ∙ e) ∙ sym (ap (λ m. byte_at m q) both.input);
+  sign = refl;
+  distance_is = refl;
+  zero_reg = refl;
+  count = refl;
+  code = λ a. refl;
+  flags = λ q. refl;
+  fixed = λ q low high. refl;
+} where
+  low : (r : ℕ) → 1 ≤ r → r ≤ 13 → slice_index all_five r ≡ slice_index zeros r
+  low zero h k = refl
+  low (suc zero) h k = refl
+  low (suc (suc zero)) h k = refl
+  low (suc (suc (suc zero))) h k = refl
+  low (suc (suc (suc (suc zero)))) h k = refl
+  low (suc (suc (suc (suc (suc zero))))) h k = refl
+  low (suc (suc (suc (suc (suc (suc zero)))))) h k = refl
+  low (suc (suc (suc (suc (suc (suc (suc zero))))))) h k = refl
+  low (suc (suc (suc (suc (suc (suc (suc (suc zero)))))))) h k = refl
+  low (suc (suc (suc (suc (suc (suc (suc (suc (suc zero))))))))) h k = refl
+  low (suc (suc (suc (suc (suc (suc (suc (suc (suc (suc zero)))))))))) h k = refl
+  low (suc (suc (suc (suc (suc (suc (suc (suc (suc (suc (suc zero))))))))))) h k = refl
+  low (suc (suc (suc (suc (suc (suc (suc (suc (suc (suc (suc (suc zero)))))))))))) h k = refl
+  low (suc (suc (suc (suc (suc (suc (suc (suc (suc (suc (suc (suc (suc zero))))))))))))) h k = refl
+  low (suc (suc (suc (suc (suc (suc (suc (suc (suc (suc (suc (suc (suc (suc r)))))))))))))) h k = absurd (omega (arith, k))
+
+-- all premises are met, and the check that the tick calls fires with the twelfth step
+undisturbed_there : ComesTo loop_input (after_input loop_input 6) (state_of lean_output all_five 0x1314c Going) (7 * undisturbed_piece true 0 1 + undisturbed_ends [])
+undisturbed_there =
+    undisturbed.follows 0 6 (state_of lean_output all_five 0x1314c Going) (ap (λ s. s.outcome) input_starts) (ap (λ s. begins_at loop_blocks s.pc) input_starts)
+    (subst (λ s. HasOriginals loop_input lean_output 0x10000 4096 (entry_in loop options 1200 loop_blocks) s (state_of lean_output all_five 0x1314c Going)) (sym input_starts) originals) (steady_none 6 (omega arith))
+
+undisturbed_fires : (run (state_of lean_output all_five 0x1314c Going) 12).outcome ≡ Fired
+unfolding execute jumped computed_value value holds
+undisturbed_fires = ap (λ s. s.outcome) (runs 12 (state_of lean_output all_five 0x1314c Going) refl refl refl)
 
 -- ---- a wrong instruction: the first one gives 7, not 0. The set of reached addresses is empty
 lean_faults : FaultsFound loop_input lean_output none [] (lean_bounds loop options 1200) 31 182
