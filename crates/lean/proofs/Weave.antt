@@ -23,6 +23,7 @@ pub mod Promise
 pub mod Landed
 pub mod Carry
 pub mod Half
+pub mod Robust
 pub mod HalfPiece
 pub mod HalfEnter
 pub mod HalfLeave

@@ -209,7 +209,7 @@ pub record Carried (w : World) (free : ℕ → Bool) (stores : Bool) (D : State 
 
 module _ (w : World) (free : ℕ → Bool) (stores : Bool) (D : State → Type 0) (keeper : Carried w free stores D) where
   -- before some words
-  abbrev At : List Item → State → Type 0
+  abbrev pub At : List Item → State → Type 0
   At xs y = D y × Reads false w.code w.entry y.pc xs
 
   -- from the begin of such words
@@ -242,48 +242,51 @@ module _ (w : World) (free : ℕ → Bool) (stores : Bool) (D : State → Type 0
   low_word p (Constant q v ∷ xs) rest h r = let l = w.low (p + 4) (ins Auipc q 0 0 (upper_part (distance_between (p + 4) v))) r.0 in omega (arith, l)
   low_word p (Go t ∷ xs) rest h r = absurd h
 
-  cost_behind : (xs : List Item) → cost (behind xs) ≤ cost xs
+  pub cost_behind : (xs : List Item) → cost (behind xs) ≤ cost xs
   cost_behind [] = omega arith
   cost_behind (Mark m ∷ xs) = omega arith
   cost_behind (Plain i ∷ xs) = omega arith
   cost_behind (Constant q v ∷ xs) = omega arith
   cost_behind (Go t ∷ xs) = omega arith
 
-  -- a branch over a word goes on to it, or behind it
-  on_skip : (u : State) (i : Ins) (xs rest : List Item) → D u → Reads false w.code w.entry u.pc (Plain i ∷ xs ++ rest) → Skips i xs → Good xs → Good (behind xs) → Comes (At rest) u (cond (is_break i.kind) 0 1 + cost xs)
+  -- a branch over a word: its step leads to it, or behind it
+  pub skipped : (u : State) (i : Ins) (xs rest : List Item) → D u → Reads false w.code w.entry u.pc (Plain i ∷ xs ++ rest) → Skips i xs → At (xs ++ rest) (step u) ⊎ At (behind xs ++ rest) (step u)
   unfolding execute jumped
+  skipped u i xs rest a r s = by (holds i.kind (reg u i.rs1) (reg u i.rs2)) (step-class u i class.Branch (keeper.over u a).going (known_at w.code u i (keeper.over u a) r.0) s.0) where
+    there : (p : ℕ) → step u ≡ moved u.regs p u → D (step u) × ((step u).pc ≡ p)
+    there p e = (subst D (sym e) (keeper.goes u p a), ap (λ z. z.pc) e)
+
+    size_few : (xs : List Item) → (first_size xs ≤ 8) × (first_size xs % 4 ≡ 0)
+    size_few [] = (omega arith, refl)
+    size_few (Mark m ∷ xs) = (omega arith, refl)
+    size_few (Plain j ∷ xs) = (omega arith, refl)
+    size_few (Constant q v ∷ xs) = (omega arith, refl)
+    size_few (Go t ∷ xs) = (omega arith, refl)
+
+    value_of : (n : ℕ) → n ≤ 8 → wrapped (pos (4 + n)) ≡ 4 + n
+    value_of n h = omega (arith, h)
+
+    goal : (u.pc + imm i) % 2 ^ 64 ≡ u.pc + 4 + first_size xs
+    goal = let low = low_word u.pc xs rest s.2 r.1 in let few = size_few xs in let z : imm i ≡ 4 + first_size xs = ap wrapped s.1 ∙ value_of (first_size xs) few.0 in omega (arith, low, z, few.0)
+
+    grain : (u.pc + 4 + first_size xs) % 4 ≡ 0
+    grain = let g = w.grain u.pc i r.0 in let few = size_few xs in omega (arith, g, few.1)
+
+    by : (b : Bool) → step u ≡ cond b (jumped u.regs ((u.pc + imm i) % 2 ^ 64) u) (moved u.regs (next_pc u) u) → At (xs ++ rest) (step u) ⊎ At (behind xs ++ rest) (step u)
+    by true e =
+        let g = there (u.pc + 4 + first_size xs) (e ∙ ap (λ p. jumped u.regs p u) goal ∙ jumped_to u.regs (u.pc + 4 + first_size xs) u grain) in
+        inr (g.0, subst (λ p. Reads false w.code w.entry p (behind xs ++ rest)) (sym g.1) (reads_behind (u.pc + 4) xs rest s.2 r.1))
+    by false e =
+        let g = there (u.pc + 4) (e ∙ ap (λ p. moved u.regs p u) (pc_four w u i r.0)) in
+        inl (g.0, subst (λ p. Reads false w.code w.entry p (xs ++ rest)) (sym g.1) r.1)
+
+  on_skip : (u : State) (i : Ins) (xs rest : List Item) → D u → Reads false w.code w.entry u.pc (Plain i ∷ xs ++ rest) → Skips i xs → Good xs → Good (behind xs) → Comes (At rest) u (cond (is_break i.kind) 0 1 + cost xs)
   on_skip u i xs rest a r s good far =
       let counts : cond {A = ℕ} (is_break i.kind) 0 1 ≡ 1 = ap (λ b. cond {A = ℕ} b 0 1) (no_break i.kind class.Branch s.0 (λ e. absurd (cc))) in
       subst (λ n. Comes (At rest) u (n + cost xs)) (sym counts)
       (comes_on (λ y. At (xs ++ rest) y ⊎ At (behind xs ++ rest) y) (At rest) u 1 (cost xs)
-      (comes_one _ u (inr (by (holds i.kind (reg u i.rs1) (reg u i.rs2)) (step-class u i class.Branch (keeper.over u a).going (known_at w.code u i (keeper.over u a) r.0) s.0))))
-      (λ y b. ⊎_elim (λ h. good y rest h.0 h.1) (λ h. comes_more (At rest) y (cost (behind xs)) (cost xs) (cost_behind xs) (far y rest h.0 h.1)) b)) where
-        there : (p : ℕ) → step u ≡ moved u.regs p u → D (step u) × ((step u).pc ≡ p)
-        there p e = (subst D (sym e) (keeper.goes u p a), ap (λ z. z.pc) e)
-
-        size_few : (xs : List Item) → (first_size xs ≤ 8) × (first_size xs % 4 ≡ 0)
-        size_few [] = (omega arith, refl)
-        size_few (Mark m ∷ xs) = (omega arith, refl)
-        size_few (Plain j ∷ xs) = (omega arith, refl)
-        size_few (Constant q v ∷ xs) = (omega arith, refl)
-        size_few (Go t ∷ xs) = (omega arith, refl)
-
-        value_of : (n : ℕ) → n ≤ 8 → wrapped (pos (4 + n)) ≡ 4 + n
-        value_of n h = omega (arith, h)
-
-        goal : (u.pc + imm i) % 2 ^ 64 ≡ u.pc + 4 + first_size xs
-        goal = let low = low_word u.pc xs rest s.2 r.1 in let few = size_few xs in let z : imm i ≡ 4 + first_size xs = ap wrapped s.1 ∙ value_of (first_size xs) few.0 in omega (arith, low, z, few.0)
-
-        grain : (u.pc + 4 + first_size xs) % 4 ≡ 0
-        grain = let g = w.grain u.pc i r.0 in let few = size_few xs in omega (arith, g, few.1)
-
-        by : (b : Bool) → step u ≡ cond b (jumped u.regs ((u.pc + imm i) % 2 ^ 64) u) (moved u.regs (next_pc u) u) → At (xs ++ rest) (step u) ⊎ At (behind xs ++ rest) (step u)
-        by true e =
-            let g = there (u.pc + 4 + first_size xs) (e ∙ ap (λ p. jumped u.regs p u) goal ∙ jumped_to u.regs (u.pc + 4 + first_size xs) u grain) in
-            inr (g.0, subst (λ p. Reads false w.code w.entry p (behind xs ++ rest)) (sym g.1) (reads_behind (u.pc + 4) xs rest s.2 r.1))
-        by false e =
-            let g = there (u.pc + 4) (e ∙ ap (λ p. moved u.regs p u) (pc_four w u i r.0)) in
-            inl (g.0, subst (λ p. Reads false w.code w.entry p (xs ++ rest)) (sym g.1) r.1)
+      (comes_one _ u (inr (skipped u i xs rest a r s)))
+      (λ y b. ⊎_elim (λ h. good y rest h.0 h.1) (λ h. comes_more (At rest) y (cost (behind xs)) (cost xs) (cost_behind xs) (far y rest h.0 h.1)) b))
 
   -- the second word of a constant
   abbrev second : ℕ → ℕ → ℕ → Ins

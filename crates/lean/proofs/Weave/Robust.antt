@@ -1,0 +1,390 @@
+-- Runs whose duplicate half is changed at any steps: what comes of them, and how words carry it on.
+use Rattle.std.proofs.Common.{◌≡◌, ℕ, zero, suc, ◌+◌, ◌*◌, ◌%◌, ◌^◌, ◌<◌, ◌≤◌, ◌⊎◌, inl, inr, ⊎_elim, Bool, true, false, cond, List, [], ◌∷◌, ◌++◌, length, is_some, refl, sym, ap, ◌∙◌, subst, arith}
+use Rattle.std.specs.Prelude.{◌-◌, slice_index}
+use Rattle.std.proofs.lemmas.Bool.{cases_eq}
+use Rattle.std.proofs.lemmas.List.{set-set}
+use Rattle.machine.specs.Memory.{byte_in}
+use Rattle.machine.proofs.Lemmas.{constant_value}
+use Rattle.rv_isa.specs.declared.class.Class.TheVariants as class
+use Rattle.machine.specs.Table.{ins, Ins, Auipc, Addi}
+use Rattle.machine.specs.Offsets.{distance_between, upper_part, lower_part}
+use Rattle.qed_model.specs.Promise.Kept.{NotTrapped, IsSteady, LeadsToReached}
+use Rattle.qed_model.specs.Weave.Lean.{is_break, cost}
+use Rattle.qed_model.specs.Weave.Sequences.{Reads}
+use Rattle.weave_core.specs.WeaveLaws.{Met}
+use Rattle.weave_core.specs.World.{computed_value, value, World, Item, Mark, Plain, Constant, Go, Going, wrapped, get, byte_at, flags_at, State, reg, set_reg, moved, result, next_pc, execute, Known, next, step, run, class_of, fetched_at}
+use Rattle.lean.specs.Strayed.{IsOver}
+use Rattle.lean.proofs.Weave.Chain.{break_is, no_break}
+use Rattle.lean.proofs.Weave.Carry.{met_going, Keep, Skips, Begins, behind, Carried, skipped, keeps, slice_index-set_reg_other, slice_index-set_reg_same, length-set_reg, step-class, step-compute, Over, known_at, pc_four, one_run, run-more, steady_le, steady_rest}
+use Rattle.lean.proofs.Weave.Half.{is_spare, Half, Into, half_over, half_keeps}
+
+-- a register set in two lists
+set_reg_alike : (us ss : List ℕ) (r v q : ℕ) → length us ≡ 32 → length ss ≡ 32 → r < 32 → slice_index us q ≡ slice_index ss q → slice_index (set_reg r v us) q ≡ slice_index (set_reg r v ss) q
+set_reg_alike us ss zero v q lu ls h e = e
+set_reg_alike us ss (suc k) v q lu ls h e =
+    ⊎_elim
+    (λ same. ap (slice_index (set_reg (suc k) v us)) same ∙ slice_index-set_reg_same us (suc k) v (omega arith) (omega (arith, lu, h)) ∙ sym (ap (slice_index (set_reg (suc k) v ss)) same ∙ slice_index-set_reg_same ss (suc k) v (omega arith) (omega (arith, ls, h))))
+    (λ ne. slice_index-set_reg_other us (suc k) v q ne ∙ e ∙ sym (slice_index-set_reg_other ss (suc k) v q ne))
+    (cases_eq q (suc k))
+
+module _ (w : World) where
+  -- ---- changes
+  -- v is u with other numbers in x15, x17 to x29 and the duplicate half
+  pub record Disturbed (u v : State) : Type 0 where
+    pub before : u.outcome ≡ Going
+    pub going : v.outcome ≡ Going
+    pub pc : v.pc ≡ u.pc
+    pub long : length u.regs ≡ 32
+    pub count : length v.regs ≡ 32
+    pub low : (r : ℕ) → r ≤ 14 → reg v r ≡ reg u r
+    pub sign : reg v 16 ≡ reg u 16
+    pub thirty : reg v 30 ≡ reg u 30
+    pub last : reg v 31 ≡ reg u 31
+    pub code : (a : ℕ) → fetched_at v.memory v.ranges a ≡ fetched_at u.memory u.ranges a
+    pub flags : (q : ℕ) → flags_at v.memory q ≡ flags_at u.memory q
+    pub cells : (q : ℕ) → (q < w.base + w.distance) ⊎ (w.base + 2 * w.distance ≤ q) → get v.memory q ≡ get u.memory q
+
+  pub half_disturbed : (x : ℕ) (s u v : State) → Half w x s u → Disturbed u v → Half w x s v
+  unfolding byte_at
+  half_disturbed x s u v a d = record {
+    going = d.going;
+    standing = record { code = λ p. d.code p ∙ a.standing.code p; flagged = record { flags = λ q. d.flags q ∙ a.standing.flagged.flags q; regs = d.count; zero_reg = d.low 0 (omega arith) ∙ a.standing.flagged.zero_reg } };
+    sourced = a.sourced;
+    sign = d.sign ∙ a.sign;
+    distance = d.low 14 (omega arith) ∙ a.distance;
+    originals = λ r h. d.low r (omega (arith, h)) ∙ a.originals r h;
+    bytes = λ q e. ap (λ c. byte_in c) (d.cells q (inl (w.layout.high q e))) ∙ a.bytes q e;
+    fixed = λ q h l. d.cells q (inr h) ∙ a.fixed q h l;
+  }
+
+  -- a register set in both
+  pub set_disturbed : (r x p : ℕ) (u v : State) → r < 32 → Disturbed u v → Disturbed (moved (set_reg r x u.regs) p u) (moved (set_reg r x v.regs) p v)
+  set_disturbed r x p u v h d = record {
+    before = d.before;
+    going = d.going;
+    pc = refl;
+    long = length-set_reg u.regs r x ∙ d.long;
+    count = length-set_reg v.regs r x ∙ d.count;
+    low = λ q l. alike q (d.low q l);
+    sign = alike 16 d.sign;
+    thirty = alike 30 d.thirty;
+    last = alike 31 d.last;
+    code = d.code;
+    flags = d.flags;
+    cells = d.cells;
+  } where
+    alike : (q : ℕ) → reg v q ≡ reg u q → slice_index (set_reg r x v.regs) q ≡ slice_index (set_reg r x u.regs) q
+    alike q e = set_reg_alike v.regs u.regs r x q d.count d.long h e
+
+module _ (w : World) (bound price : ℕ) where
+  -- ---- robust states
+  -- up to n steps and changes: the run comes to k states of the input, the first of which is t, one after the other, or
+  -- it is over. It takes m steps to the first of them, `bound` more to each later one, and `price` more for each change
+  pub Robust : (n k : ℕ) (t : State) (m : ℕ) (u : State) → Type 0
+  Robust zero k t m u = Unit {0}
+  Robust (suc n) zero t m u = Unit {0}
+  Robust (suc n) (suc k) t m u =
+      (IsOver (step u).outcome ⊎ ((j : ℕ) × (m ≡ suc j) × (Robust n (suc k) t j (step u) ⊎ (Met w (step u) t × Robust n k (step t) (j + bound) (step u)))))
+      × ((v : State) → Disturbed w u v → Robust n (suc k) t (m + price) v)
+
+  -- each state with a property is, for as many steps as the property is told, where the input's state is s
+  abbrev pub Leads : ℕ → ℕ → State → (ℕ → State → Type 0) → Type 0
+  Leads N K s D = (n k m : ℕ) (u : State) → n ≤ N → k ≤ K → IsSteady w.reached s k → D m u → Robust n k (step s) m u
+
+  -- at least so many steps are left
+  abbrev pub With : ℕ → (State → Type 0) → ℕ → State → Type 0
+  With most P m u = P u × (most ≤ m)
+
+  -- a change leaves the property
+  abbrev pub Lasts : (State → Type 0) → Type 0
+  Lasts P = (u v : State) → P u → Disturbed w u v → P v
+
+  abbrev pub LastsWith : (ℕ → State → Type 0) → Type 0
+  LastsWith D = (m : ℕ) (u v : State) → D m u → Disturbed w u v → D (m + price) v
+
+  pub with_lasts : (most : ℕ) (P : State → Type 0) → Lasts P → LastsWith (With most P)
+  with_lasts most P l m u v d c = (l u v d.0 c, let h = d.1 in omega (arith, h))
+
+  -- no move at all
+  pub leads_zero : (K : ℕ) (s : State) (D : ℕ → State → Type 0) → Leads zero K s D
+  unfolding Robust
+  leads_zero K s D zero k m u n_le k_le st d = tt
+  leads_zero K s D (suc n) k m u n_le k_le st d = absurd (omega (arith, n_le))
+
+  pub leads_less : (N N' K K' : ℕ) (s : State) (D : ℕ → State → Type 0) → N' ≤ N → K' ≤ K → Leads N K s D → Leads N' K' s D
+  leads_less N N' K K' s D h g f n k m u n_le k_le st d = f n k m u (omega (arith, n_le, h)) (omega (arith, k_le, g)) st d
+
+  pub leads_map : (N K : ℕ) (s : State) (D E : ℕ → State → Type 0) → ((m : ℕ) (u : State) → D m u → E m u) → Leads N K s E → Leads N K s D
+  leads_map N K s D E f g n k m u n_le k_le st d = g n k m u n_le k_le st (f m u d)
+
+  -- either of two
+  abbrev pub Either : (ℕ → State → Type 0) → (ℕ → State → Type 0) → ℕ → State → Type 0
+  Either D E m u = D m u ⊎ E m u
+
+  pub leads_either : (N K : ℕ) (s : State) (D E : ℕ → State → Type 0) → Leads N K s D → Leads N K s E → Leads N K s (Either D E)
+  leads_either N K s D E f g n k m u n_le k_le st d = ⊎_elim (λ x. f n k m u n_le k_le st x) (λ x. g n k m u n_le k_le st x) d
+
+  -- one step leads from a property to another, or the run is over
+  abbrev pub Steps : (ℕ → State → Type 0) → (ℕ → State → Type 0) → Type 0
+  Steps D E = (m : ℕ) (u : State) → D m u → IsOver (step u).outcome ⊎ ((j : ℕ) × (m ≡ suc j) × E j (step u))
+
+  pub leads_step : (N K : ℕ) (s : State) (D E : ℕ → State → Type 0) → LastsWith D → Steps D E → Leads N K s E → Leads (suc N) K s D
+  unfolding Robust
+  leads_step N K s D E lasts goes rest zero k m u n_le k_le st d = tt
+  leads_step N K s D E lasts goes rest (suc n) zero m u n_le k_le st d = tt
+  leads_step N K s D E lasts goes rest (suc n) (suc k) m u n_le k_le st d =
+      (⊎_elim (λ o. inl o) (λ g. inr (g.0, g.1, inl (rest n (suc k) g.0 (step u) (omega (arith, n_le)) k_le st g.2))) (goes m u d), λ v c.
+      leads_step N K s D E lasts goes rest n (suc k) (m + price) v (omega (arith, n_le)) k_le st (lasts m u v d c))
+
+  -- the same step makes the input's next state
+  abbrev pub Makes : State → (ℕ → State → Type 0) → (ℕ → State → Type 0) → Type 0
+  Makes s D E = (m : ℕ) (u : State) → D m u → IsOver (step u).outcome ⊎ ((j : ℕ) × (m ≡ suc j) × Met w (step u) (step s) × E (j + bound) (step u))
+
+  pub leads_make : (N K : ℕ) (s : State) (D E : ℕ → State → Type 0) → LastsWith D → (IsSteady w.reached s 1 → Makes s D E) → (IsSteady w.reached s 1 → Leads N K (step s) E) → Leads (suc N) (suc K) s D
+  unfolding Robust
+  leads_make N K s D E lasts goes rest zero k m u n_le k_le st d = tt
+  leads_make N K s D E lasts goes rest (suc n) zero m u n_le k_le st d = tt
+  leads_make N K s D E lasts goes rest (suc n) (suc k) m u n_le k_le st d =
+      (⊎_elim (λ o. inl o) (λ g. inr (g.0, g.1, inr (g.2, rest first n k (g.0 + bound) (step u) (omega (arith, n_le)) (omega (arith, k_le)) behind g.3))) (goes first m u d), λ v c.
+      leads_make N K s D E lasts goes rest n (suc k) (m + price) v (omega (arith, n_le)) k_le st (lasts m u v d c)) where
+    first : IsSteady w.reached s 1
+    first = steady_le w.reached s 1 (suc k) (omega arith) st
+
+    behind : IsSteady w.reached (step s) k
+    behind = subst (λ z. IsSteady w.reached z k) (one_run s) (steady_rest w.reached s 1 k (subst (IsSteady w.reached s) (more k) st)) where
+      more : (n : ℕ) → suc n ≡ 1 + n
+      more n = omega arith
+
+  -- a step that the input does not make is not asked for
+  pub leads_none : (N : ℕ) (s : State) (D : ℕ → State → Type 0) → Leads N zero s D
+  unfolding Robust
+  leads_none N s D zero k m u n_le k_le st d = tt
+  leads_none N s D (suc n) zero m u n_le k_le st d = tt
+  leads_none N s D (suc n) (suc k) m u n_le k_le st d = absurd (omega (arith, k_le))
+
+  -- ---- words that keep a property
+  module _ (free : ℕ → Bool) (stores : Bool) (P : State → Type 0) (keeper : Carried w free stores P) (lasts : Lasts P) where
+    abbrev pub Before : List Item → State → Type 0
+    Before xs u = P u × Reads false w.code w.entry u.pc xs
+
+    before_lasts : (xs : List Item) → Lasts (Before xs)
+    before_lasts xs u v b d = (lasts u v b.0 d, subst (λ p. Reads false w.code w.entry p xs) (sym d.pc) b.1)
+
+    -- one word
+    word_steps : (i : Ins) (rest : List Item) (most : ℕ) → keeps free stores i ≡ true → Steps (With (cond (is_break i.kind) 0 1 + most) (Before (Plain i ∷ rest))) (With most (Before rest))
+    unfolding execute
+    word_steps i rest most k m u d = by (is_break i.kind) refl d.1 where
+      by : (b : Bool) → is_break i.kind ≡ b → cond b 0 1 + most ≤ m → IsOver (step u).outcome ⊎ ((j : ℕ) × (m ≡ suc j) × With most (Before rest) j (step u))
+      by true e h = inl (inl (ap (λ s. s.outcome) (step-class u i class.Break (keeper.over u d.0.0).going (known_at w.code u i (keeper.over u d.0.0) d.0.1.0) (break_is i.kind e))))
+      by false e h =
+          ⊎_elim
+          (λ o. inl o)
+          (λ g. inr (m - 1, omega (arith, h), ((g.0, subst (λ p. Reads false w.code w.entry p rest) (sym g.1) d.0.1.1), omega (arith, h))))
+          (keeper.word u i d.0.0 d.0.1.0 k)
+
+    -- behind the first word of a constant
+    abbrev Middle : ℕ → ℕ → List Item → State → Type 0
+    Middle r v rest u = P u × ((p : ℕ) × ((w.code u.pc ≡ Known (ins Addi r r 0 (lower_part (distance_between p v)))) × Reads false w.code w.entry (u.pc + 4) rest))
+
+    middle_lasts : (r v : ℕ) (rest : List Item) → Lasts (Middle r v rest)
+    middle_lasts r v rest a b m d = (lasts a b m.0 d, (m.1.0, subst (λ q. (w.code q ≡ Known (ins Addi r r 0 (lower_part (distance_between m.1.0 v)))) × Reads false w.code w.entry (q + 4) rest) (sym d.pc) m.1.1))
+
+    first_steps : (r v : ℕ) (rest : List Item) (few many : ℕ) → suc few ≤ many → free r ≡ true → Steps (With many (Before (Constant r v ∷ rest))) (With few (Middle r v rest))
+    first_steps r v rest few many le f m u d =
+        ⊎_elim
+        (λ o. inl o)
+        (λ g.
+        let far : u.pc + 8 ≡ (step u).pc + 4 = let e = g.1 in omega (arith, e) in
+        inr (m - 1, (let h = d.1 in omega (arith, h, le)), ((g.0, (u.pc, (ap w.code g.1 ∙ d.0.1.1, subst (λ p. Reads false w.code w.entry p rest) far d.0.1.2))), let h = d.1 in omega (arith, h, le))))
+        (keeper.word u (ins Auipc r 0 0 (upper_part (distance_between u.pc v))) d.0.0 d.0.1.0 f)
+
+    second_steps : (r v : ℕ) (rest : List Item) (few many : ℕ) → suc few ≤ many → free r ≡ true → Steps (With many (Middle r v rest)) (With few (Before rest))
+    second_steps r v rest few many le f m u d =
+        ⊎_elim
+        (λ o. inl o)
+        (λ g. inr (m - 1, (let h = d.1 in omega (arith, h, le)), ((g.0, subst (λ p. Reads false w.code w.entry p rest) (sym g.1) d.0.1.1.1), let h = d.1 in omega (arith, h, le))))
+        (keeper.word u (ins Addi r r 0 (lower_part (distance_between d.0.1.0 v))) d.0.0 d.0.1.1.0 f)
+
+    module _ (N K : ℕ) (s : State) (rest : List Item) (most : ℕ) (on : Leads N K s (With most (Before rest))) where
+      abbrev On : ℕ → List Item → Type 0
+      On n xs = Leads N K s (With (n + most) (Before (xs ++ rest)))
+
+      loose : (n k : ℕ) (xs : List Item) → n ≤ k → On n xs → On k xs
+      loose n k xs h f = leads_map N K s (With (k + most) (Before (xs ++ rest))) (With (n + most) (Before (xs ++ rest))) (λ m u d. (d.0, (let e = d.1 in omega (arith, e, h)))) f
+
+      -- from their begin, and from behind their first
+      both : (xs : List Item) → Keep free stores xs → On (cost xs) xs × On (cost xs) (behind xs)
+      both [] d = let e : most ≡ 0 + most = omega arith in (subst (λ z. Leads N K s (With z (Before rest))) e on, subst (λ z. Leads N K s (With z (Before rest))) e on)
+      both (Mark a ∷ xs) d = absurd d
+      both (Plain i ∷ xs) d =
+          let more = both xs d.1 in
+          let n : ℕ = cond (is_break i.kind) 0 1 in
+          (⊎_elim
+          (λ k. leads_less (suc N) N K K s (With (n + cost xs + most) (Before (Plain i ∷ xs ++ rest))) (omega arith) (omega arith)
+          (subst (λ z. Leads (suc N) K s (With z (Before (Plain i ∷ xs ++ rest)))) (omega arith) (leads_step N K s (With (n + (cost xs + most)) (Before (Plain i ∷ xs ++ rest))) (With (cost xs + most) (Before (xs ++ rest))) (with_lasts _ _ (before_lasts (Plain i ∷ xs ++ rest))) (word_steps i (xs ++ rest) (cost xs + most) k) more.0)))
+          (λ k. leads_less (suc N) N K K s (With (n + cost xs + most) (Before (Plain i ∷ xs ++ rest))) (omega arith) (omega arith)
+          (leads_step N K s (With (n + cost xs + most) (Before (Plain i ∷ xs ++ rest))) (Either (With (cost xs + most) (Before (xs ++ rest))) (With (cost xs + most) (Before (behind xs ++ rest)))) (with_lasts _ _ (before_lasts (Plain i ∷ xs ++ rest)))
+          (skip_steps i xs k)
+          (leads_either N K s _ _ more.0 more.1)))
+          d.0,
+          loose (cost xs) (n + cost xs) xs (omega arith) more.0) where
+            skip_steps : (i : Ins) (xs : List Item) → Skips i xs → Steps (With (cond (is_break i.kind) 0 1 + cost xs + most) (Before (Plain i ∷ xs ++ rest))) (Either (With (cost xs + most) (Before (xs ++ rest))) (With (cost xs + most) (Before (behind xs ++ rest))))
+            skip_steps i xs k m u d =
+                let counts : cond {A = ℕ} (is_break i.kind) 0 1 ≡ 1 = ap (λ b. cond {A = ℕ} b 0 1) (no_break i.kind class.Branch k.0 (λ e. absurd (cc))) in
+                let h = d.1 in
+                inr (m - 1, omega (arith, h, counts), ⊎_elim (λ a. inl (a, omega (arith, h, counts))) (λ a. inr (a, omega (arith, h, counts))) (skipped w free stores P keeper u i xs rest d.0.0 d.0.1 k))
+      both (Constant r v ∷ xs) d =
+          let more = both xs d.1 in
+          (leads_less (suc (suc N)) N K K s (With (2 + cost xs + most) (Before (Constant r v ∷ xs ++ rest))) (omega arith) (omega arith)
+          (leads_step (suc N) K s (With (2 + cost xs + most) (Before (Constant r v ∷ xs ++ rest))) (With (1 + cost xs + most) (Middle r v (xs ++ rest))) (with_lasts _ _ (before_lasts (Constant r v ∷ xs ++ rest))) (first_steps r v (xs ++ rest) (1 + cost xs + most) (2 + cost xs + most) (omega arith) d.0)
+          (leads_step N K s (With (1 + cost xs + most) (Middle r v (xs ++ rest))) (With (cost xs + most) (Before (xs ++ rest))) (with_lasts _ _ (middle_lasts r v (xs ++ rest))) (second_steps r v (xs ++ rest) (cost xs + most) (1 + cost xs + most) (omega arith) d.0) more.0)),
+          loose (cost xs) (2 + cost xs) xs (omega arith) more.0)
+      both (Go t ∷ xs) d = absurd d
+
+      pub leads_keep : (xs : List Item) → Keep free stores xs → Leads N K s (With (cost xs + most) (Before (xs ++ rest)))
+      leads_keep xs d = (both xs d).0
+
+  -- of the original half
+  pub half_lasts : (x : ℕ) (s : State) → Lasts (Half w x s)
+  half_lasts x s u v a d = half_disturbed w x s u v a d
+
+  pub into_lasts : (x : ℕ) (s : State) (rest : List Item) → Lasts (Into w x s rest)
+  into_lasts x s rest u v a d = (half_disturbed w x s u v a.0 d, subst (λ p. Reads false w.code w.entry p rest) (sym d.pc) a.1)
+
+  pub half_leads :
+      (xs : List Item) → Keep is_spare false xs → (N K x : ℕ) (s t : State) (rest : List Item) (most : ℕ) → Leads N K s (With most (Into w x t rest)) → Leads N K s (With (cost xs + most) (Into w x t (xs ++ rest)))
+  half_leads xs d N K x s t rest most on = leads_keep is_spare false (Half w x t) (half_keeps w x t) (half_lasts x t) N K s rest most on xs d
+
+  -- ---- one word
+  -- a word that leads from one property to another, or is over: with one move more
+  pub leads_move :
+      (N K : ℕ) (s : State) (P Q : State → Type 0) (few many : ℕ) → suc few ≤ many → Lasts P → ((u : State) → P u → IsOver (step u).outcome ⊎ Q (step u)) → Leads N K s (With few Q) → Leads (suc N) K s (With many P)
+  leads_move N K s P Q few many le lasts goes rest =
+      leads_step N K s (With many P) (With few Q) (with_lasts many P lasts) (λ m u d. ⊎_elim (λ o. inl o) (λ q. inr (m - 1, (let h = d.1 in omega (arith, h, le)), (q, let h = d.1 in omega (arith, h, le)))) (goes u d.0)) rest
+
+  -- and with as many
+  pub leads_word :
+      (N K : ℕ) (s : State) (P Q : State → Type 0) (few many : ℕ) → suc few ≤ many → Lasts P → ((u : State) → P u → IsOver (step u).outcome ⊎ Q (step u)) → Leads N K s (With few Q) → Leads N K s (With many P)
+  leads_word N K s P Q few many le lasts goes rest = leads_less (suc N) N K K s (With many P) (omega arith) (omega arith) (leads_move N K s P Q few many le lasts goes rest)
+
+  -- a word that makes the input's next state too
+  pub leads_original :
+      (N K : ℕ) (s : State) (P Q : State → Type 0) (few many : ℕ) → 1 ≤ many → suc few ≤ many + bound → Lasts P → (IsSteady w.reached s 1 → (u : State) → P u → IsOver (step u).outcome ⊎ (Met w (step u) (step s) × Q (step u)))
+      → (IsSteady w.reached s 1 → Leads N K (step s) (With few Q)) → Leads N (suc K) s (With many P)
+  leads_original N K s P Q few many some le lasts goes rest =
+      leads_less (suc N) N (suc K) (suc K) s (With many P) (omega arith) (omega arith)
+      (leads_make N K s (With many P) (With few Q) (with_lasts many P lasts) (λ st m u d. ⊎_elim (λ o. inl o) (λ q. inr (m - 1, (let h = d.1 in omega (arith, h, some)), q.0, (q.1, let h = d.1 in omega (arith, h, some, le)))) (goes st u d.0)) rest)
+
+  -- more steps are left
+  pub leads_more : (N K : ℕ) (s : State) (P : State → Type 0) (few many : ℕ) → few ≤ many → Leads N K s (With few P) → Leads N K s (With many P)
+  leads_more N K s P few many h f = leads_map N K s (With many P) (With few P) (λ m u d. (d.0, let e = d.1 in omega (arith, e, h))) f
+
+  pub leads_as : (N K : ℕ) (s : State) (P Q : State → Type 0) (most : ℕ) → ((u : State) → P u → Q u) → Leads N K s (With most Q) → Leads N K s (With most P)
+  leads_as N K s P Q most f g = leads_map N K s (With most P) (With most Q) (λ m u d. (f u d.0, d.1)) g
+
+  -- the original half has the input's values
+  pub half_met : (x : ℕ) (s u : State) → Half w x s u → Met w u s
+  half_met x s u h = met_going w u s (record { output = h.standing.flagged; originals = h.originals; bytes = h.bytes }) h.going h.sourced.over.going
+
+  -- ---- words that give a known number
+  -- a property of a state before some words
+  abbrev pub Before_words : (State → Type 0) → List Item → State → Type 0
+  Before_words P xs u = P u × Reads false w.code w.entry u.pc xs
+
+  pub words_last : (P : State → Type 0) (xs : List Item) → Lasts P → Lasts (Before_words P xs)
+  words_last P xs lasts u v b d = (lasts u v b.0 d, subst (λ p. Reads false w.code w.entry p xs) (sym d.pc) b.1)
+
+  -- a computing word
+  pub computes : (i : Ins) (u : State) → Over w.code u → w.code u.pc ≡ Known i → class_of i.kind ≡ class.Compute → step u ≡ moved (set_reg i.rd (result i.kind i u) u.regs) (u.pc + 4) u
+  computes i u o k c = step-compute u i o.going (known_at w.code u i o k) c ∙ ap (λ p. moved (set_reg i.rd (result i.kind i u) u.regs) p u) (pc_four w u i k)
+
+  -- from a property to one of the registers behind it
+  pub leads_compute :
+      (N K : ℕ) (s : State) (i : Ins) (P Q : State → Type 0) (rest : List Item) (few many : ℕ) → suc few ≤ many → class_of i.kind ≡ class.Compute → Lasts P → ((u : State) → P u → Over w.code u)
+      → ((u : State) (p : ℕ) → P u → Q (moved (set_reg i.rd (result i.kind i u) u.regs) p u))
+      → Leads N K s (With few (Before_words Q rest)) → Leads N K s (With many (Before_words P (Plain i ∷ rest)))
+  leads_compute N K s i P Q rest few many le c lasts over goes on =
+      leads_word N K s (Before_words P (Plain i ∷ rest)) (Before_words Q rest) few many le (words_last P (Plain i ∷ rest) lasts)
+      (λ u b.
+      let e = computes i u (over u b.0) b.1.0 c in
+      inr (subst Q (sym e) (goes u (u.pc + 4) b.0), subst (λ p. Reads false w.code w.entry p rest) (sym (ap (λ z. z.pc) e)) b.1.1))
+      on
+
+  -- behind the first word of a constant, for a register that no change reaches
+  pub record Begun (r v : ℕ) (rest : List Item) (Q : State → Type 0) (u : State) : Type 0 where
+    pub over : Over w.code u
+    pub from : ℕ
+    pub low : from < 2 ^ 64
+    pub has : 1 ≤ r → reg u r ≡ (from + wrapped (upper_part (distance_between from v))) % 2 ^ 64
+    pub word : w.code u.pc ≡ Known (ins Addi r r 0 (lower_part (distance_between from v)))
+    pub reads : Reads false w.code w.entry (u.pc + 4) rest
+    pub goes : (p : ℕ) → Q (moved (set_reg r v u.regs) p u)
+
+  -- x0 to x14, x16, x30 and x31
+  abbrev pub IsSafe : ℕ → Type 0
+  IsSafe r = (r ≤ 14) ⊎ ((r ≡ 16) ⊎ ((r ≡ 30) ⊎ (r ≡ 31)))
+
+  pub safe_same : (r : ℕ) (u v : State) → IsSafe r → Disturbed w u v → reg v r ≡ reg u r
+  safe_same r u v s d = ⊎_elim (λ h. d.low r h) (⊎_elim (λ e. rw e d.sign) (⊎_elim (λ e. rw e d.thirty) (λ e. rw e d.last))) s
+
+  pub safe_few : (r : ℕ) → IsSafe r → r < 32
+  safe_few r s = ⊎_elim (λ h. omega (arith, h)) (⊎_elim (λ e. omega (arith, e)) (⊎_elim (λ e. omega (arith, e)) (λ e. omega (arith, e)))) s
+
+  pub begun_lasts : (r v : ℕ) (rest : List Item) (Q : State → Type 0) → IsSafe r → Lasts Q → Lasts (Begun r v rest Q)
+  begun_lasts r v rest Q safe lasts a b g d = record {
+    over = record { going = d.going; code = λ p. d.code p ∙ g.over.code p };
+    from = g.from;
+    low = g.low;
+    has = λ one. safe_same r a b safe d ∙ g.has one;
+    word = ap w.code d.pc ∙ g.word;
+    reads = subst (λ p. Reads false w.code w.entry (p + 4) rest) (sym d.pc) g.reads;
+    goes = λ p. lasts (moved (set_reg r v a.regs) p a) (moved (set_reg r v b.regs) p b) (g.goes p) (set_disturbed w r v p a b (safe_few r safe) d);
+  }
+
+  -- its first word
+  pub begins :
+      (r v : ℕ) (rest : List Item) (Q : State → Type 0) (u : State) → Over w.code u → length u.regs ≡ 32 → r < 32 → Reads false w.code w.entry u.pc (Constant r v ∷ rest) → ((p : ℕ) → Q (moved (set_reg r v u.regs) p u))
+      → Begun r v rest Q (step u)
+  unfolding computed_value
+  begins r v rest Q u o long few h goes =
+      let i = ins Auipc r 0 0 (upper_part (distance_between u.pc v)) in
+      let y = result Auipc i u in
+      let e = computes i u o h.0 refl in
+      let low = w.low u.pc i h.0 in
+      subst (Begun r v rest Q) (sym e) (record {
+        over = record { going = o.going; code = o.code };
+        from = u.pc;
+        low = omega (arith, low);
+        has = λ one. slice_index-set_reg_same u.regs r y one (omega (arith, few, long));
+        word = h.1;
+        reads = subst (λ p. Reads false w.code w.entry p rest) (eight u.pc) h.2;
+        goes = λ p. subst (λ l. Q (moved l p u)) (sym (set_twice u.regs r y v)) (goes p);
+      }) where
+        eight : (n : ℕ) → n + 8 ≡ n + 4 + 4
+        eight n = omega arith
+
+        set_twice : (l : List ℕ) (r x v : ℕ) → set_reg r v (set_reg r x l) ≡ set_reg r v l
+        set_twice l zero x v = refl
+        set_twice l (suc k) x v = set-set l (suc k) x v
+
+  -- its second word sets the register to the number
+  pub ends_begun : (r v : ℕ) (rest : List Item) (Q : State → Type 0) (u : State) → v < 2 ^ 64 → Begun r v rest Q u → Before_words Q rest (step u)
+  unfolding computed_value value
+  ends_begun r v rest Q u low g =
+      let i = ins Addi r r 0 (lower_part (distance_between g.from v)) in
+      let e = computes i u g.over g.word refl in
+      let is : step u ≡ moved (set_reg r v u.regs) (u.pc + 4) u = e ∙ ap (λ l. moved l (u.pc + 4) u) (set_to r (reg u r) g.has) in
+      (subst Q (sym is) (g.goes (u.pc + 4)), subst (λ p. Reads false w.code w.entry p rest) (sym (ap (λ z. z.pc) is)) g.reads) where
+        set_to : (r x : ℕ) → (1 ≤ r → x ≡ (g.from + wrapped (upper_part (distance_between g.from v))) % 2 ^ 64) → set_reg r ((x + wrapped (lower_part (distance_between g.from v))) % 2 ^ 64) u.regs ≡ set_reg r v u.regs
+        set_to zero x h = refl
+        set_to (suc k) x h = ap (λ n. set_reg (suc k) n u.regs) (ap (λ n. (n + wrapped (lower_part (distance_between g.from v))) % 2 ^ 64) (h (omega arith)) ∙ constant_value g.from v g.low low)
+
+  -- both: from a property to one of the registers behind it
+  pub leads_constant :
+      (N K : ℕ) (s : State) (r v : ℕ) (P Q : State → Type 0) (rest : List Item) (few many : ℕ) → 2 + few ≤ many → IsSafe r → v < 2 ^ 64 → Lasts P → Lasts Q → ((u : State) → P u → Over w.code u × (length u.regs ≡ 32))
+      → ((u : State) (p : ℕ) → P u → Q (moved (set_reg r v u.regs) p u))
+      → Leads N K s (With few (Before_words Q rest)) → Leads N K s (With many (Before_words P (Constant r v ∷ rest)))
+  leads_constant N K s r v P Q rest few many le safe low lp lq over goes on =
+      leads_word N K s (Before_words P (Constant r v ∷ rest)) (Begun r v rest Q) (1 + few) many (omega (arith, le)) (words_last P (Constant r v ∷ rest) lp)
+      (λ u b. let o = over u b.0 in inr (begins r v rest Q u o.0 o.1 (safe_few r safe) b.1 (λ p. goes u p b.0)))
+      (leads_word N K s (Begun r v rest Q) (Before_words Q rest) few (1 + few) (omega arith) (begun_lasts r v rest Q safe lq) (λ u g. inr (ends_begun r v rest Q u low g)) on)
