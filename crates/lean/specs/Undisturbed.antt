@@ -1,10 +1,14 @@
 -- The duplicate half does not reach the original half: from the entry of a block the original half alone has to be right.
-use Rattle.std.specs.Prelude.{◌≡◌, ◌↔◌, ℕ, ◌+◌, ◌*◌, ◌^◌, ◌<◌, ◌≤◌, ◌⊎◌, Bool, true, List, length}
-use Rattle.rv_isa.specs.declared.profile.TheConstants.{LAST_ORIGINAL, DISTANCE, SIGNATURE}
+use Rattle.std.specs.Prelude.{◌≡◌, ◌↔◌, ℕ, suc, ◌+◌, ◌*◌, ◌^◌, ◌<◌, ◌≤◌, ◌⊎◌, Bool, true, false, List, [], ◌∷◌, length}
+use Rattle.rv_isa.specs.declared.profile.TheConstants.{LAST_ORIGINAL, PAIR_DISTANCE, DISTANCE, CURSOR, SIGNATURE}
 use Rattle.machine.specs.declared.outcome.Outcome.TheVariants.{Going, Ended}
-use Rattle.machine.specs.Memory.{get, byte_at, flags_at}
-use Rattle.machine.specs.Program.{Program, memory_of}
+use Rattle.machine.specs.declared.place.Place.{Place}
+use Rattle.machine.specs.declared.place.Place.TheVariants.{Reg, Word}
+use Rattle.machine.specs.Memory.{get, byte_at, flags_at, allows}
+use Rattle.machine.specs.Program.{Program, memory_of, start, AreStartRegs}
 use Rattle.machine.specs.Step.{State, reg, run, fetched_at}
+use Rattle.qed_model.specs.declared.change.Change.{Change}
+use Rattle.qed_model.specs.Promise.Changed.{changed_run}
 use Rattle.qed_model.specs.Promise.Kept.{after_input, is_mapped, Halves, Steady}
 use Rattle.qed_model.specs.Weave.Blocks.{begins_at}
 use Rattle.qed_model.specs.Weave.LeanBounds.{entry_steps, call_steps}
@@ -45,9 +49,37 @@ undisturbed_piece land ranges round = 2 * (entry_steps land + call_steps land) +
 abbrev pub undisturbed_ends : List (ℕ × ℕ) → ℕ
 undisturbed_ends spans = 33 + (2 * length spans + 8 * word_count spans)
 
+-- ---- changes of the duplicate half
+-- a place of it: x15, x17 to x29, or eight bytes that are no code
+abbrev pub IsDuplicate : Program → ℕ → ℕ → Place → Type 0
+IsDuplicate g base distance (Reg r) = (r ≡ CURSOR) ⊎ ((PAIR_DISTANCE < r) × (r ≤ LAST_ORIGINAL + PAIR_DISTANCE))
+IsDuplicate g base distance (Word a) = (base + distance ≤ a) × (a + 8 ≤ base + 2 * distance) × ((q : ℕ) → a ≤ q → q < a + 8 → allows (λ c. c.execute) (get (memory_of g.segments) q) ≡ false)
+
+abbrev pub AllDuplicate : Program → ℕ → ℕ → List Change → Type 0
+AllDuplicate g base distance [] = Unit {0}
+AllDuplicate g base distance (c ∷ cs) = IsDuplicate g base distance c.place × AllDuplicate g base distance cs
+
+-- the run whose states are given comes to the input's states up to that after n steps, one after the other, to the first within
+-- `first` steps and to each later one within `bound` more: a check has fired, a step has trapped, or the original half has
+-- the input's values, and then the run has ended exactly if the input has
+pub record FollowsTo (f : Program) (n first bound : ℕ) (states : ℕ → State) : Type 0 where
+  pub at : ℕ → ℕ
+  pub grows : (k : ℕ) → k < n → at k < at (suc k)
+  pub within : (k : ℕ) → k ≤ n → at k ≤ first + k * bound
+  pub values : (k : ℕ) → k ≤ n → IsOver (states (at k)).outcome ⊎ (Halves f (after_input f k) (states (at k)) × (((states (at k)).outcome ≡ Ended) ↔ ((after_input f k).outcome ≡ Ended)))
+
+-- the most steps that a change costs, where the output maps no byte from `top` on: those of a step of the input and of the end,
+-- and those of a sweep that goes on until it traps
+abbrev pub change_price : ℕ → ℕ → ℕ → ℕ
+change_price bound ends top = bound + ends + top
+
 -- from such a state the run comes to each later state of the input, as long as the input is steady, or is over. In steps,
--- `bound` is for each step of the input and once more, and `ends` for the end of the test
+-- `bound` is for each step of the input and once more, and `ends` for the end of the test.
+-- From its start, with any changes of the duplicate half at any steps, it comes to the input's states in their order
 pub record Undisturbed (f g : Program) (reached : ℕ → Bool) (base distance : ℕ) (entry : ℕ → ℕ) (blocks : List Block) (bound ends : ℕ) : Type 0 where
   pub follows :
       (k n : ℕ) (u : State) → (after_input f k).outcome ≡ Going → begins_at blocks (after_input f k).pc ≡ true → HasOriginals f g base distance entry (after_input f k) u
       → Steady f reached (k + n) → ComesTo f (after_input f (k + n)) u ((n + 1) * bound + ends)
+  pub keeps :
+      (regs : List ℕ) (cs : List Change) (n top : ℕ) → AreStartRegs regs → AllDuplicate g base distance cs → ((q : ℕ) → top ≤ q → is_mapped g q ≡ false) → top + 8 ≤ 2 ^ 64
+      → Steady f reached n → FollowsTo f n (31 + bound + ends + length cs * change_price bound ends top) bound (changed_run (start g regs) cs)

@@ -89,7 +89,7 @@ module _ (f g : Program) (w : World) (l : Lean) (blocks : List Block) (p : LeanP
   unfolding entries
   counts = record { each = λ a h. (counted a h).counts }
 
-  begins : Reads w.form.far w.code w.entry g.entry (begin w.distance f.entry)
+  pub begins : Reads w.form.far w.code w.entry g.entry (begin w.distance f.entry)
   begins = subst (λ b. Reads b w.code w.entry g.entry first) (sym p.sound.near) (reads_front false w.code w.entry g.entry first ((middle ++ last) ++ stub) (whole_words))
 
   -- ---- the words

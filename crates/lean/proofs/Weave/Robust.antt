@@ -42,7 +42,7 @@ module _ (w : World) where
     pub last : reg v 31 ≡ reg u 31
     pub code : (a : ℕ) → fetched_at v.memory v.ranges a ≡ fetched_at u.memory u.ranges a
     pub flags : (q : ℕ) → flags_at v.memory q ≡ flags_at u.memory q
-    pub cells : (q : ℕ) → (q < w.base + w.distance) ⊎ (w.base + 2 * w.distance ≤ q) → get v.memory q ≡ get u.memory q
+    pub cells : (q : ℕ) → q < 2 ^ 64 → (q < w.base + w.distance) ⊎ (w.base + 2 * w.distance ≤ q) → get v.memory q ≡ get u.memory q
 
   pub half_disturbed : (x : ℕ) (s u v : State) → Half w x s u → Disturbed u v → Half w x s v
   unfolding byte_at
@@ -53,8 +53,8 @@ module _ (w : World) where
     sign = d.sign ∙ a.sign;
     distance = d.low 14 (omega arith) ∙ a.distance;
     originals = λ r h. d.low r (omega (arith, h)) ∙ a.originals r h;
-    bytes = λ q e. ap (λ c. byte_in c) (d.cells q (inl (w.layout.high q e))) ∙ a.bytes q e;
-    fixed = λ q h l. d.cells q (inr h) ∙ a.fixed q h l;
+    bytes = λ q e. let h = w.layout.high q e in let top = w.layout.top in ap (λ c. byte_in c) (d.cells q (omega (arith, h, top)) (inl h)) ∙ a.bytes q e;
+    fixed = λ q h l. d.cells q l (inr h) ∙ a.fixed q h l;
   }
 
   -- a register set in both
@@ -79,17 +79,22 @@ module _ (w : World) where
 module _ (w : World) (bound price : ℕ) where
   -- ---- robust states
   -- up to n steps and changes: the run comes to k states of the input, the first of which is t, one after the other, or
-  -- it is over. It takes m steps to the first of them, `bound` more to each later one, and `price` more for each change
-  pub Robust : (n k : ℕ) (t : State) (m : ℕ) (u : State) → Type 0
+  -- it is over. It takes m steps to the first of them, `bound` more to each later one, and `price` more for each change. If
+  -- the price is below the bound, there are no changes
+  unfoldable pub Robust : (n k : ℕ) (t : State) (m : ℕ) (u : State) → Type 0
   Robust zero k t m u = Unit {0}
   Robust (suc n) zero t m u = Unit {0}
   Robust (suc n) (suc k) t m u =
       (IsOver (step u).outcome ⊎ ((j : ℕ) × (m ≡ suc j) × (Robust n (suc k) t j (step u) ⊎ (Met w (step u) t × Robust n k (step t) (j + bound) (step u)))))
-      × ((v : State) → Disturbed w u v → Robust n (suc k) t (m + price) v)
+      × ((v : State) → bound ≤ price → Disturbed w u v → Robust n (suc k) t (m + price) v)
 
-  -- each state with a property is, for as many steps as the property is told, where the input's state is s
+  -- each state with a property is, for as many steps as the property is told; S is what is asked of k states from t on
+  abbrev pub Every : (ℕ → Type 0) → State → ℕ → ℕ → (ℕ → State → Type 0) → Type 0
+  Every S t N K D = (n k m : ℕ) (u : State) → n ≤ N → k ≤ K → S k → D m u → Robust n k t m u
+
+  -- the same where the input's state is s
   abbrev pub Leads : ℕ → ℕ → State → (ℕ → State → Type 0) → Type 0
-  Leads N K s D = (n k m : ℕ) (u : State) → n ≤ N → k ≤ K → IsSteady w.reached s k → D m u → Robust n k (step s) m u
+  Leads N K s D = Every (IsSteady w.reached s) (step s) N K D
 
   -- at least so many steps are left
   abbrev pub With : ℕ → (State → Type 0) → ℕ → State → Type 0
@@ -100,10 +105,10 @@ module _ (w : World) (bound price : ℕ) where
   Lasts P = (u v : State) → P u → Disturbed w u v → P v
 
   abbrev pub LastsWith : (ℕ → State → Type 0) → Type 0
-  LastsWith D = (m : ℕ) (u v : State) → D m u → Disturbed w u v → D (m + price) v
+  LastsWith D = (m : ℕ) (u v : State) → D m u → bound ≤ price → Disturbed w u v → D (m + price) v
 
   pub with_lasts : (most : ℕ) (P : State → Type 0) → Lasts P → LastsWith (With most P)
-  with_lasts most P l m u v d c = (l u v d.0 c, let h = d.1 in omega (arith, h))
+  with_lasts most P l m u v d one c = (l u v d.0 c, let h = d.1 in omega (arith, h))
 
   -- no move at all
   pub leads_zero : (K : ℕ) (s : State) (D : ℕ → State → Type 0) → Leads zero K s D
@@ -128,13 +133,16 @@ module _ (w : World) (bound price : ℕ) where
   abbrev pub Steps : (ℕ → State → Type 0) → (ℕ → State → Type 0) → Type 0
   Steps D E = (m : ℕ) (u : State) → D m u → IsOver (step u).outcome ⊎ ((j : ℕ) × (m ≡ suc j) × E j (step u))
 
-  pub leads_step : (N K : ℕ) (s : State) (D E : ℕ → State → Type 0) → LastsWith D → Steps D E → Leads N K s E → Leads (suc N) K s D
+  pub every_step : (S : ℕ → Type 0) (t : State) (N K : ℕ) (D E : ℕ → State → Type 0) → LastsWith D → Steps D E → Every S t N K E → Every S t (suc N) K D
   unfolding Robust
-  leads_step N K s D E lasts goes rest zero k m u n_le k_le st d = tt
-  leads_step N K s D E lasts goes rest (suc n) zero m u n_le k_le st d = tt
-  leads_step N K s D E lasts goes rest (suc n) (suc k) m u n_le k_le st d =
-      (⊎_elim (λ o. inl o) (λ g. inr (g.0, g.1, inl (rest n (suc k) g.0 (step u) (omega (arith, n_le)) k_le st g.2))) (goes m u d), λ v c.
-      leads_step N K s D E lasts goes rest n (suc k) (m + price) v (omega (arith, n_le)) k_le st (lasts m u v d c))
+  every_step S t N K D E lasts goes rest zero k m u n_le k_le st d = tt
+  every_step S t N K D E lasts goes rest (suc n) zero m u n_le k_le st d = tt
+  every_step S t N K D E lasts goes rest (suc n) (suc k) m u n_le k_le st d =
+      (⊎_elim (λ o. inl o) (λ g. inr (g.0, g.1, inl (rest n (suc k) g.0 (step u) (omega (arith, n_le)) k_le st g.2))) (goes m u d), λ v one c.
+      every_step S t N K D E lasts goes rest n (suc k) (m + price) v (omega (arith, n_le)) k_le st (lasts m u v d one c))
+
+  pub leads_step : (N K : ℕ) (s : State) (D E : ℕ → State → Type 0) → LastsWith D → Steps D E → Leads N K s E → Leads (suc N) K s D
+  leads_step N K s D E lasts goes rest = every_step (IsSteady w.reached s) (step s) N K D E lasts goes rest
 
   -- the same step makes the input's next state
   abbrev pub Makes : State → (ℕ → State → Type 0) → (ℕ → State → Type 0) → Type 0
@@ -145,8 +153,8 @@ module _ (w : World) (bound price : ℕ) where
   leads_make N K s D E lasts goes rest zero k m u n_le k_le st d = tt
   leads_make N K s D E lasts goes rest (suc n) zero m u n_le k_le st d = tt
   leads_make N K s D E lasts goes rest (suc n) (suc k) m u n_le k_le st d =
-      (⊎_elim (λ o. inl o) (λ g. inr (g.0, g.1, inr (g.2, rest first n k (g.0 + bound) (step u) (omega (arith, n_le)) (omega (arith, k_le)) behind g.3))) (goes first m u d), λ v c.
-      leads_make N K s D E lasts goes rest n (suc k) (m + price) v (omega (arith, n_le)) k_le st (lasts m u v d c)) where
+      (⊎_elim (λ o. inl o) (λ g. inr (g.0, g.1, inr (g.2, rest first n k (g.0 + bound) (step u) (omega (arith, n_le)) (omega (arith, k_le)) behind g.3))) (goes first m u d), λ v one c.
+      leads_make N K s D E lasts goes rest n (suc k) (m + price) v (omega (arith, n_le)) k_le st (lasts m u v d one c)) where
     first : IsSteady w.reached s 1
     first = steady_le w.reached s 1 (suc k) (omega arith) st
 
@@ -263,9 +271,14 @@ module _ (w : World) (bound price : ℕ) where
       leads_step N K s (With many P) (With few Q) (with_lasts many P lasts) (λ m u d. ⊎_elim (λ o. inl o) (λ q. inr (m - 1, (let h = d.1 in omega (arith, h, le)), (q, let h = d.1 in omega (arith, h, le)))) (goes u d.0)) rest
 
   -- and with as many
+  pub every_word :
+      (S : ℕ → Type 0) (t : State) (N K : ℕ) (P Q : State → Type 0) (few many : ℕ) → suc few ≤ many → Lasts P → ((u : State) → P u → IsOver (step u).outcome ⊎ Q (step u)) → Every S t N K (With few Q) → Every S t N K (With many P)
+  every_word S t N K P Q few many le lasts goes rest n k m u n_le k_le st d =
+      every_step S t N K (With many P) (With few Q) (with_lasts many P lasts) (λ m u d. ⊎_elim (λ o. inl o) (λ q. inr (m - 1, (let h = d.1 in omega (arith, h, le)), (q, let h = d.1 in omega (arith, h, le)))) (goes u d.0)) rest n k m u (omega (arith, n_le)) k_le st d
+
   pub leads_word :
       (N K : ℕ) (s : State) (P Q : State → Type 0) (few many : ℕ) → suc few ≤ many → Lasts P → ((u : State) → P u → IsOver (step u).outcome ⊎ Q (step u)) → Leads N K s (With few Q) → Leads N K s (With many P)
-  leads_word N K s P Q few many le lasts goes rest = leads_less (suc N) N K K s (With many P) (omega arith) (omega arith) (leads_move N K s P Q few many le lasts goes rest)
+  leads_word N K s P Q few many le lasts goes rest = every_word (IsSteady w.reached s) (step s) N K P Q few many le lasts goes rest
 
   -- a word that makes the input's next state too
   pub leads_original :
@@ -274,6 +287,13 @@ module _ (w : World) (bound price : ℕ) where
   leads_original N K s P Q few many some le lasts goes rest =
       leads_less (suc N) N (suc K) (suc K) s (With many P) (omega arith) (omega arith)
       (leads_make N K s (With many P) (With few Q) (with_lasts many P lasts) (λ st m u d. ⊎_elim (λ o. inl o) (λ q. inr (m - 1, (let h = d.1 in omega (arith, h, some)), q.0, (q.1, let h = d.1 in omega (arith, h, some, le)))) (goes st u d.0)) rest)
+
+  -- what is asked of the input's next step may be taken as given
+  pub leads_steady : (N K : ℕ) (s : State) (D : ℕ → State → Type 0) → (IsSteady w.reached s 1 → Leads N (suc K) s D) → Leads N (suc K) s D
+  unfolding Robust
+  leads_steady N K s D f zero k m u n_le k_le st d = tt
+  leads_steady N K s D f (suc n) zero m u n_le k_le st d = tt
+  leads_steady N K s D f (suc n) (suc k) m u n_le k_le st d = f (steady_le w.reached s 1 (suc k) (omega arith) st) (suc n) (suc k) m u n_le k_le st d
 
   -- more steps are left
   pub leads_more : (N K : ℕ) (s : State) (P : State → Type 0) (few many : ℕ) → few ≤ many → Leads N K s (With few P) → Leads N K s (With many P)

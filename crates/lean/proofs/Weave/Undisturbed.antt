@@ -1,24 +1,34 @@
 -- The law: from the entry of a block the original half alone leads the run along the input's run.
-use Rattle.std.proofs.Common.{◌≡◌, ℕ, zero, suc, ◌+◌, ◌*◌, ◌/◌, ◌≤◌, ◌⊎◌, inl, inr, ⊎_elim, List, [], ◌∷◌, length, is_some, refl, sym, ap, ◌∙◌, subst, arith}
-use Rattle.std.specs.Prelude.{◌-◌}
+use Rattle.std.proofs.Common.{◌≡◌, ℕ, zero, suc, ◌+◌, ◌*◌, ◌/◌, ◌^◌, ◌≤◌, ◌⊎◌, inl, inr, ⊎_elim, Bool, true, false, List, [], ◌∷◌, length, is_some, refl, sym, ap, ◌∙◌, subst, arith}
+use Rattle.std.specs.Prelude.{◌-◌, ◌↔◌}
 use Rattle.std.proofs.lemmas.Bool.{cases_eq}
 use Rattle.std.proofs.Math.Nat.{mul-le-mul_left}
-use Rattle.qed_model.specs.Promise.Kept.{after_input, Halves}
+use Rattle.qed_model.specs.Promise.Kept.{after_input, Halves, Steady, IsSteady}
+use Rattle.qed_model.specs.declared.change.Change.{Change}
+use Rattle.qed_model.specs.Promise.Changed.{changed_run, with_changes}
+use Rattle.qed_model.specs.Weave.Blocks.{begins_at}
 use Rattle.qed_model.specs.Weave.LeanCode.{Lean}
-use Rattle.qed_model.specs.Weave.Lean.{cost}
-use Rattle.qed_model.specs.Weave.Sequences.{Block, compare, visit, visit_word, wraps, ORIGINALS}
+use Rattle.qed_model.specs.Weave.Lean.{cost, begin}
+use Rattle.qed_model.specs.Weave.Sequences.{Reads, Block, compare, visit, visit_word, wraps, ORIGINALS}
 use Rattle.weave_core.specs.Leaving.{sweep_cost}
 use Rattle.weave_core.specs.Rows.{Sourced}
 use Rattle.weave_core.specs.WeaveLaws.{Met}
-use Rattle.weave_core.specs.World.{World, GoodSpans, Program, Going, start, zeros, State, get, flags_at, reg, run}
-use Rattle.lean.specs.Undisturbed.{HasOriginals, ComesTo, Undisturbed, undisturbed_piece, undisturbed_ends}
+use Rattle.weave_core.specs.World.{World, GoodSpans, Program, Going, Ended, AreStartRegs, Item, Go, start, zeros, State, get, flags_at, reg, step, run}
+use Rattle.lean.specs.Undisturbed.{HasOriginals, ComesTo, AllDuplicate, FollowsTo, change_price, Undisturbed, undisturbed_piece, undisturbed_ends}
+use Rattle.lean.specs.Strayed.{IsOver}
 use Rattle.lean.specs.Woven.{LeanPlan, LeanUndisturbed}
-use Rattle.lean.proofs.Weave.Carry.{Comes, run-more, standing_run, some-flags, first_sourced, steady_rest}
+use Rattle.lean.proofs.Weave.Carry.{run-more, run-none, met_same, Standing, standing_run, some-flags, first_sourced, steady_rest}
 use Rattle.lean.proofs.Weave.Chain.{cost_append}
 use Rattle.lean.proofs.Weave.Half.{Half}
-use Rattle.lean.proofs.Weave.HalfEnd.{sweep_most, end_most}
-use Rattle.lean.proofs.Weave.HalfRun.{follow, round_most, total}
 use Rattle.lean.proofs.Weave.Inside.{sized_run}
+use Rattle.lean.proofs.Weave.Promise.{begins}
+use Rattle.lean.proofs.Weave.Robust.{Robust, Every, With, Before_words, words_last, half_met}
+use Rattle.lean.proofs.Weave.RobustEnd.{Room, end_most, sweep_most}
+use Rattle.lean.proofs.Weave.RobustLeave.{Entered, go_enters}
+use Rattle.lean.proofs.Weave.RobustRun.{round, entry_cost, entered_leads}
+use Rattle.lean.proofs.Weave.RobustStart.{Awaits, awaits_last, begin_words, start_awaits}
+use Rattle.lean.proofs.Weave.Trail.{hits, made, made_zero, made_few, robust_more, robust_with, with_stands, follows}
+use Rattle.machine.proofs.Lemmas.{run-last}
 
 -- ---- steps
 wraps_cost : (spans : List (ℕ × ℕ)) (first : ℕ) → cost (wraps spans first) ≤ 5 * length spans
@@ -75,34 +85,170 @@ module _ (f g : Program) (w : World) (l : Lean) (blocks : List Block) (p : LeanP
     bytes = λ q e. m.holds.bytes q (ap (λ z. is_some (get z q)) (sym p.world.input) ∙ e);
   }
 
-  round_few : round_most f g w l blocks p ≤ undisturbed_piece l.land (length w.form.spans) w.form.round
-  round_few =
+  abbrev leader : ℕ → Bool
+  leader a = begins_at blocks a
+
+  -- ---- the numbers
+  abbrev bound : ℕ
+  bound = undisturbed_piece l.land (length w.form.spans) w.form.round
+
+  abbrev ends : ℕ
+  ends = undisturbed_ends w.form.spans
+
+  abbrev price : ℕ → ℕ
+  price top = change_price bound ends top
+
+  abbrev most : ℕ → ℕ
+  most fee = entry_cost f g w l blocks p bound fee
+
+  enough : (fee : ℕ) → round f g w l blocks p bound fee + (2047 + 31) ≤ bound
+  enough fee =
       let v = visit_cost w.form.round w.form.spans in
       let c : cost compare ≡ ORIGINALS = refl in
       omega (arith, v, c)
 
-  ends_few : end_most w + 1 ≤ undisturbed_ends w.form.spans
+  ends_few : end_most w + 1 ≤ ends
   ends_few =
       let s = sweep_few w.form.spans w.base w.spans_good in
       let c : cost compare ≡ ORIGINALS = refl in
       omega (arith, s, c)
 
-  comes : (t u : State) (n : ℕ) → Comes (λ y. Met w y t) u (total f g w l blocks p n) → ComesTo f t u ((n + 1) * undisturbed_piece l.land (length w.form.spans) w.form.round + undisturbed_ends w.form.spans)
-  comes t u n c =
-      let k = mul-le-mul_left (n + 1) round_few in
-      let e = ends_few in
-      ⊎_elim
-      (λ o. record { steps = c.steps + 1; within = omega (arith, c.within, k, e); is = inl o })
-      (λ m. record { steps = c.steps; within = omega (arith, c.within, k, e); is = inr (halves_of t (run u c.steps) m, m.ends) })
-      c.is
+  -- ---- from an entry
+  -- any state there, with a price and where no byte of the output stands
+  entered :
+      (fee top : ℕ) → round f g w l blocks p bound fee ≤ fee → (bound ≤ fee → Room w fee top) → (n k : ℕ) (s u : State) → IsSteady w.reached s k → Entered w l leader p.sound bound fee s u
+      → Robust w bound fee n k (step s) (most fee) u
+  entered fee top dear paid n k s u st h = entered_leads f g w l blocks p bound fee (enough fee) dear top paid k n k s (omega arith) n k (most fee) u (omega arith) (omega arith) st (h, omega arith)
 
-  undisturbed : Undisturbed f g w.reached w.base w.distance w.entry blocks (undisturbed_piece l.land (length w.form.spans) w.form.round) (undisturbed_ends w.form.spans)
+  -- ---- without changes
+  unchanged : (u : State) (n : ℕ) → changed_run u [] n ≡ run u n
+  unfolding changed_run with_changes
+  unchanged u zero = sym (run-none u)
+  unchanged u (suc n) = let e : n + 1 ≡ suc n = omega arith in ap step (unchanged u n) ∙ sym (run-last u n) ∙ ap (run u) e
+
+  -- a price below the bound
+  abbrev cheap : ℕ
+  cheap = round f g w l blocks p bound 0
+
+  free : bound ≤ cheap → Room w cheap 0
+  free h = absurd (let e = enough 0 in omega (arith, h, e))
+
+  -- the input's state after n steps
+  comes : (n : ℕ) (s u : State) → IsSteady w.reached s n → Half w s.pc s u → Entered w l leader p.sound bound cheap s u → ComesTo f (run s n) u ((n + 1) * bound + ends)
+  unfolding run
+  comes zero s u st h e = record { steps = 0; within = omega arith; is = inr (by (sym (run-none u)) (sym (run-none s))) } where
+    by : {y t : State} → u ≡ y → s ≡ t → Halves f t y × ((y.outcome ≡ Ended) ↔ (t.outcome ≡ Ended))
+    by a b = let m = met_same w _ _ _ _ (sym a) (sym b) (half_met w bound cheap s.pc s u h) in (halves_of _ _ m, m.ends)
+  comes (suc n) s u st h e =
+      let fuel = suc (most cheap + suc n * bound + 0) in
+      let r = entered cheap 0 (omega arith) free (fuel * 1) (suc n) s u st e in
+      let r0 = subst (Robust w bound cheap (fuel * 1) (suc n) (step s) (most cheap)) (sym (unchanged u 0 ∙ run-none u)) r in
+      let st0 = subst (Standing w.code w.output) (sym (unchanged u 0 ∙ run-none u)) h.standing in
+      let m = follows g w p.world.output bound cheap some u [] (λ z. absurd (omega (arith, z))) tt fuel (fuel * 1) 0 (suc n) (step s) (most cheap) r0 st0 (omega arith) (omega arith) in
+      let within = m.within n (omega arith) in
+      let sum = enough cheap in
+      let last = ends_few in
+      record {
+        steps = m.at n;
+        within = total (m.at n) n (omega (arith, within, sum, last));
+        is = ⊎_elim
+            (λ o. inl (subst (λ y. IsOver y.outcome) (unchanged u (m.at n)) o))
+            (λ k. inr (by (run s (suc n)) (run u (m.at n)) (subst (λ y. Met w y (run (step s) n)) (unchanged u (m.at n)) k)))
+            (m.values n (omega arith));
+      } where
+        some : 1 ≤ bound
+        some = omega arith
+
+        total : (x n : ℕ) → x ≤ bound + ends + n * bound → x ≤ (suc n + 1) * bound + ends
+        total x n h = let e : (suc n + 1) * bound ≡ bound + bound + n * bound = omega arith in omega (arith, h, e)
+
+        by : (t y : State) → Met w y t → Halves f t y × ((y.outcome ≡ Ended) ↔ (t.outcome ≡ Ended))
+        by t y m = (halves_of t y m, m.ends)
+
+  -- ---- from the start, with changes
+  -- what is asked of the input for k states from its first one on
+  abbrev First : ℕ → Type 0
+  First k = (j : ℕ) → k ≡ suc j → IsSteady w.reached (start f zeros) j
+
+  module _ (top : ℕ) (none : (q : ℕ) → top ≤ q → is_some (get w.output q) ≡ false) (low_top : top + 8 ≤ 2 ^ 64) where
+    abbrev s0 : State
+    s0 = start f zeros
+
+    abbrev dear : ℕ
+    dear = price top
+
+    paid : bound ≤ dear → Room w dear top
+    paid one = record { none = none; low = low_top; enough = omega arith }
+
+    pays : round f g w l blocks p bound dear ≤ dear
+    pays = let e = enough dear in omega (arith, e)
+
+    -- the jump to the entry of the test makes the input's first state
+    goes_first : (N K : ℕ) → Every w bound dear First s0 N K (With w bound dear (1 + end_most w) (Before_words w bound dear (Awaits w s0 f.entry []) (Go f.entry ∷ [])))
+    unfolding Robust
+    goes_first N K zero k m u n_le k_le st d = tt
+    goes_first N K (suc n) zero m u n_le k_le st d = tt
+    goes_first N K (suc n) (suc k) m u n_le k_le st d =
+        (⊎_elim
+        (λ o. inl o)
+        (λ e.
+        let sum = enough dear in
+        let few = d.1 in
+        inr (m - 1, omega (arith, few), inr (half_met w bound dear s0.pc s0 (step u) e.0, robust_more g w p.world.output bound dear n k (step s0) (most dear) (m - 1 + bound) (step u) (omega (arith, sum, few)) (entered dear top pays paid n k s0 (step u) (st k refl) e))))
+        (go_enters w l leader p.sound bound dear f.entry s0 u [] refl p.begins (d.0.0.half u.pc, d.0.1)),
+        λ v one c. goes_first N K n (suc k) (m + dear) v (omega (arith, n_le)) k_le st (words_last w bound dear (Awaits w s0 f.entry []) (Go f.entry ∷ []) (awaits_last w s0 f.entry bound dear [] tt) u v d.0 c, (let few = d.1 in omega (arith, few))))
+
+    -- what runs first
+    starts : (n k : ℕ) (regs : List ℕ) → AreStartRegs regs → First k → Robust w bound dear n k s0 (31 + end_most w) (start g regs)
+    starts n k regs are st =
+        let known = p.sound.known f.entry p.begins in
+        let top_low = w.layout.top in
+        let reads = subst (λ b. Reads b w.code w.entry g.entry (begin w.distance f.entry)) p.sound.near (begins f g w l blocks p) in
+        begin_words w s0 f.entry bound dear First n k (1 + end_most w) known.low (omega (arith, top_low)) (goes_first n k) n k (31 + end_most w) (start g regs) (omega arith) (omega arith) st
+        ((start_awaits f g w p.world regs are f.entry, reads), omega arith)
+
+    -- with any changes
+    keeps_to :
+        (regs : List ℕ) (cs : List Change) (n : ℕ) → AreStartRegs regs → AllDuplicate g w.base w.distance cs → Steady f w.reached n
+        → FollowsTo f n (31 + bound + ends + length cs * dear) bound (changed_run (start g regs) cs)
+    unfolding changed_run
+    keeps_to regs cs n are all st =
+        let u = start g regs in
+        let c = length cs in
+        let fuel = suc (31 + end_most w + hits cs 0 * dear + suc n * bound + (c - made cs 0) * dear) in
+        let moves = fuel * suc c in
+        let first = start_awaits f g w p.world regs are f.entry in
+        let su : Standing w.code w.output u = record { code = first.over.code; flagged = record { flags = λ q. ap (λ m. flags_at m q) p.world.output; regs = first.long; zero_reg = first.zero_reg } } in
+        let some : 1 ≤ c → bound ≤ dear = λ z. omega arith in
+        let r = starts (c + moves) (suc n) regs are (λ j e. subst (IsSteady w.reached s0) (let k : n ≡ j = omega (arith, e) in k) st) in
+        let r0 = robust_with g w p.world.output bound dear cs 0 moves (suc n) s0 (31 + end_most w) u some all su r in
+        let s1 = with_stands g w p.world.output cs 0 u all su in
+        let m = follows g w p.world.output bound dear (omega arith) u cs some all fuel moves 0 (suc n) s0 (31 + end_most w + hits cs 0 * dear) r0 s1 (omega arith) (omega arith) in
+        let few = costs cs in
+        let last = ends_few in
+        record {
+          at = m.at;
+          grows = λ k h. m.grows k (omega (arith, h));
+          within = λ k h. let a = m.within k (omega (arith, h)) in omega (arith, a, few, last);
+          values = λ k h. ⊎_elim (λ o. inl o) (λ q. inr (halves_of (run s0 k) (changed_run u cs (m.at k)) q, q.ends)) (m.values k (omega (arith, h)));
+        } where
+          costs : (cs : List Change) → hits cs 0 * dear + (length cs - made cs 0) * dear ≡ length cs * dear
+          costs cs =
+              let z = made_zero cs in
+              let f = made_few cs 0 in
+              let sum : hits cs 0 + (length cs - made cs 0) ≡ length cs = omega (arith, z, f) in
+              distribute (hits cs 0) (length cs - made cs 0) dear ∙ ap (λ x. x * dear) sum where
+                distribute : (a b p : ℕ) → a * p + b * p ≡ (a + b) * p
+                distribute a b p = omega arith
+
+  undisturbed : Undisturbed f g w.reached w.base w.distance w.entry blocks bound ends
   undisturbed = record {
     follows = λ k n u going leads h st.
         let s = after_input f k in
         let half = half_of s u (sourced_at k going) h in
-        subst (λ t. ComesTo f t u ((n + 1) * undisturbed_piece l.land (length w.form.spans) w.form.round + undisturbed_ends w.form.spans)) (sym (run-more (start f zeros) k n))
-        (comes (run s n) u n (follow f g w l blocks p n n s u (omega arith) half h.here leads (steady_rest w.reached (start f zeros) k n st)));
+        subst (λ t. ComesTo f t u ((n + 1) * bound + ends)) (sym (run-more (start f zeros) k n))
+        (comes n s u (steady_rest w.reached (start f zeros) k n st) half (half, h.here, leads));
+    keeps = λ regs cs n top are all none low st. keeps_to top (λ q h. ap (λ m. is_some (get m q)) (sym p.world.output) ∙ none q h) low regs cs n are all st;
   }
 
 pub lean_undisturbed : LeanUndisturbed
