@@ -25,6 +25,7 @@ pub mod Carry
 pub mod Half
 pub mod Robust
 pub mod Trail
+pub mod DuplicateSlips
 pub mod RobustStart
 pub mod RobustPiece
 pub mod RobustRun

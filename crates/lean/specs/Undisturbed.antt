@@ -1,15 +1,18 @@
 -- The duplicate half does not reach the original half: from the entry of a block the original half alone has to be right.
-use Rattle.std.specs.Prelude.{◌≡◌, ◌↔◌, ℕ, suc, ◌+◌, ◌*◌, ◌^◌, ◌<◌, ◌≤◌, ◌⊎◌, Bool, true, false, List, [], ◌∷◌, length}
+use Rattle.std.specs.Prelude.{◌≡◌, ◌↔◌, ℕ, suc, cond, nat_le, ◌-◌, ◌+◌, ◌*◌, ◌^◌, ◌<◌, ◌≤◌, ◌⊎◌, Bool, true, false, List, [], ◌∷◌, length}
 use Rattle.rv_isa.specs.declared.profile.TheConstants.{LAST_ORIGINAL, PAIR_DISTANCE, DISTANCE, CURSOR, SIGNATURE}
 use Rattle.machine.specs.declared.outcome.Outcome.TheVariants.{Going, Ended}
 use Rattle.machine.specs.declared.place.Place.{Place}
 use Rattle.machine.specs.declared.place.Place.TheVariants.{Reg, Word}
-use Rattle.machine.specs.Memory.{get, byte_at, flags_at, allows}
+use Rattle.rv_isa.specs.declared.class.Class.TheVariants as class
+use Rattle.machine.specs.Values.{width_of}
+use Rattle.machine.specs.Memory.{get, put, byte_at, flags_at, allows}
 use Rattle.machine.specs.Program.{Program, memory_of, start, AreStartRegs}
-use Rattle.machine.specs.Step.{State, reg, run, fetched_at}
+use Rattle.machine.specs.Step.{State, Ins, Known, class_of, place, next, next_pc, moved, stored, reg, run, fetched_at}
 use Rattle.qed_model.specs.declared.change.Change.{Change}
 use Rattle.qed_model.specs.Promise.Changed.{changed_run}
-use Rattle.qed_model.specs.Promise.Kept.{after_input, is_mapped, Halves, Steady}
+use Rattle.qed_model.specs.Promise.Faults.{GivesAny}
+use Rattle.qed_model.specs.Promise.Kept.{after_input, after_output, is_mapped, Halves, Steady}
 use Rattle.qed_model.specs.Weave.Blocks.{begins_at}
 use Rattle.qed_model.specs.Weave.LeanBounds.{entry_steps, call_steps}
 use Rattle.qed_model.specs.Weave.Sequences.{Block}
@@ -50,15 +53,39 @@ abbrev pub undisturbed_ends : List (ℕ × ℕ) → ℕ
 undisturbed_ends spans = 33 + (2 * length spans + 8 * word_count spans)
 
 -- ---- changes of the duplicate half
--- a place of it: x15, x17 to x29, or eight bytes that are no code
+-- n bytes of it from an address on, which are no code
+pub record InDuplicate (g : Program) (base distance a n : ℕ) : Type 0 where
+  pub above : base + distance ≤ a
+  pub below : a + n ≤ base + 2 * distance
+  pub no_code : (q : ℕ) → a ≤ q → q < a + n → allows (λ c. c.execute) (get (memory_of g.segments) q) ≡ false
+
+-- x15, and x17 to x29
+abbrev pub IsDuplicateReg : ℕ → Type 0
+IsDuplicateReg r = (r ≡ CURSOR) ⊎ ((PAIR_DISTANCE < r) × (r ≤ LAST_ORIGINAL + PAIR_DISTANCE))
+
+-- such a register, or eight such bytes
 abbrev pub IsDuplicate : Program → ℕ → ℕ → Place → Type 0
-IsDuplicate g base distance (Reg r) = (r ≡ CURSOR) ⊎ ((PAIR_DISTANCE < r) × (r ≤ LAST_ORIGINAL + PAIR_DISTANCE))
-IsDuplicate g base distance (Word a) = (base + distance ≤ a) × (a + 8 ≤ base + 2 * distance) × ((q : ℕ) → a ≤ q → q < a + 8 → allows (λ c. c.execute) (get (memory_of g.segments) q) ≡ false)
+IsDuplicate g base distance (Reg r) = IsDuplicateReg r
+IsDuplicate g base distance (Word a) = InDuplicate g base distance a 8
 
 abbrev pub AllDuplicate : Program → ℕ → ℕ → List Change → Type 0
 AllDuplicate g base distance [] = Unit {0}
 AllDuplicate g base distance (c ∷ cs) = IsDuplicate g base distance c.place × AllDuplicate g base distance cs
 
+-- ---- slips of its instructions
+-- v is the state behind the instruction i of u if it goes wrong once: it gives such a register any number, or stores any number
+-- anywhere in the duplicate half, or is skipped
+pub data SlipsDuplicate (g : Program) (base distance : ℕ) (i : Ins) (u v : State) : Type 0 where
+  writes : (class_of i.kind ≡ class.Compute) ⊎ (class_of i.kind ≡ class.Load) → IsDuplicateReg i.rd → GivesAny i u v → SlipsDuplicate g base distance i u v
+  stores : (x a : ℕ) → class_of i.kind ≡ class.Store → InDuplicate g base distance (place i u) (width_of i.kind) → InDuplicate g base distance a (width_of i.kind)
+      → v ≡ stored (put u.memory a (width_of i.kind) x) (next_pc u) u → SlipsDuplicate g base distance i u v
+  leaves : class_of i.kind ≡ class.Store → InDuplicate g base distance (place i u) (width_of i.kind) → v ≡ moved u.regs (next_pc u) u → SlipsDuplicate g base distance i u v
+
+-- the run up to its step n, and then the one from v on
+abbrev pub slipped_run : Program → List ℕ → ℕ → State → ℕ → State
+slipped_run g regs n v j = cond (nat_le j n) (after_output g regs j) (run v (j - (n + 1)))
+
+-- ---- what follows
 -- the run whose states are given comes to the input's states up to that after n steps, one after the other, to the first within
 -- `first` steps and to each later one within `bound` more: a check has fired, a step has trapped, or the original half has
 -- the input's values, and then the run has ended exactly if the input has
@@ -75,7 +102,8 @@ change_price bound ends top = bound + ends + top
 
 -- from such a state the run comes to each later state of the input, as long as the input is steady, or is over. In steps,
 -- `bound` is for each step of the input and once more, and `ends` for the end of the test.
--- From its start, with any changes of the duplicate half at any steps, it comes to the input's states in their order
+-- From its start, with any changes of the duplicate half at any steps, it comes to the input's states in their order; so it does if
+-- one instruction that writes into the duplicate half goes wrong
 pub record Undisturbed (f g : Program) (reached : ℕ → Bool) (base distance : ℕ) (entry : ℕ → ℕ) (blocks : List Block) (bound ends : ℕ) : Type 0 where
   pub follows :
       (k n : ℕ) (u : State) → (after_input f k).outcome ≡ Going → begins_at blocks (after_input f k).pc ≡ true → HasOriginals f g base distance entry (after_input f k) u
@@ -83,3 +111,7 @@ pub record Undisturbed (f g : Program) (reached : ℕ → Bool) (base distance :
   pub keeps :
       (regs : List ℕ) (cs : List Change) (n top : ℕ) → AreStartRegs regs → AllDuplicate g base distance cs → ((q : ℕ) → top ≤ q → is_mapped g q ≡ false) → top + 8 ≤ 2 ^ 64
       → Steady f reached n → FollowsTo f n (31 + bound + ends + length cs * change_price bound ends top) bound (changed_run (start g regs) cs)
+  pub slips :
+      (regs : List ℕ) (m n top : ℕ) (i : Ins) (v : State) → AreStartRegs regs → (after_output g regs m).outcome ≡ Going → next (after_output g regs m) ≡ Known i → (after_output g regs (m + 1)).outcome ≡ Going
+      → SlipsDuplicate g base distance i (after_output g regs m) v → ((q : ℕ) → top ≤ q → is_mapped g q ≡ false) → top + 8 ≤ 2 ^ 64
+      → Steady f reached n → FollowsTo f n (31 + bound + ends + change_price bound ends top) bound (slipped_run g regs m v)

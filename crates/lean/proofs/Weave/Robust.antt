@@ -137,9 +137,11 @@ module _ (w : World) (bound price : ℕ) where
   unfolding Robust
   every_step S t N K D E lasts goes rest zero k m u n_le k_le st d = tt
   every_step S t N K D E lasts goes rest (suc n) zero m u n_le k_le st d = tt
-  every_step S t N K D E lasts goes rest (suc n) (suc k) m u n_le k_le st d =
-      (⊎_elim (λ o. inl o) (λ g. inr (g.0, g.1, inl (rest n (suc k) g.0 (step u) (omega (arith, n_le)) k_le st g.2))) (goes m u d), λ v one c.
-      every_step S t N K D E lasts goes rest n (suc k) (m + price) v (omega (arith, n_le)) k_le st (lasts m u v d one c))
+  every_step S t N K D E lasts goes rest (suc n) (suc k) m u n_le k_le st d = (
+    ⊎_elim (λ o. inl o) (λ g. inr (g.0, g.1, inl (rest n (suc k) g.0 (step u) (omega (arith, n_le)) k_le st g.2))) (goes m u d),
+    λ v one c.
+        every_step S t N K D E lasts goes rest n (suc k) (m + price) v (omega (arith, n_le)) k_le st (lasts m u v d one c),
+  )
 
   pub leads_step : (N K : ℕ) (s : State) (D E : ℕ → State → Type 0) → LastsWith D → Steps D E → Leads N K s E → Leads (suc N) K s D
   leads_step N K s D E lasts goes rest = every_step (IsSteady w.reached s) (step s) N K D E lasts goes rest
@@ -152,9 +154,11 @@ module _ (w : World) (bound price : ℕ) where
   unfolding Robust
   leads_make N K s D E lasts goes rest zero k m u n_le k_le st d = tt
   leads_make N K s D E lasts goes rest (suc n) zero m u n_le k_le st d = tt
-  leads_make N K s D E lasts goes rest (suc n) (suc k) m u n_le k_le st d =
-      (⊎_elim (λ o. inl o) (λ g. inr (g.0, g.1, inr (g.2, rest first n k (g.0 + bound) (step u) (omega (arith, n_le)) (omega (arith, k_le)) behind g.3))) (goes first m u d), λ v one c.
-      leads_make N K s D E lasts goes rest n (suc k) (m + price) v (omega (arith, n_le)) k_le st (lasts m u v d one c)) where
+  leads_make N K s D E lasts goes rest (suc n) (suc k) m u n_le k_le st d = (
+    ⊎_elim (λ o. inl o) (λ g. inr (g.0, g.1, inr (g.2, rest first n k (g.0 + bound) (step u) (omega (arith, n_le)) (omega (arith, k_le)) behind g.3))) (goes first m u d),
+    λ v one c.
+        leads_make N K s D E lasts goes rest n (suc k) (m + price) v (omega (arith, n_le)) k_le st (lasts m u v d one c),
+  ) where
     first : IsSteady w.reached s 1
     first = steady_le w.reached s 1 (suc k) (omega arith) st
 
@@ -226,27 +230,29 @@ module _ (w : World) (bound price : ℕ) where
       both (Mark a ∷ xs) d = absurd d
       both (Plain i ∷ xs) d =
           let more = both xs d.1 in
-          let n : ℕ = cond (is_break i.kind) 0 1 in
-          (⊎_elim
-          (λ k. leads_less (suc N) N K K s (With (n + cost xs + most) (Before (Plain i ∷ xs ++ rest))) (omega arith) (omega arith)
-          (subst (λ z. Leads (suc N) K s (With z (Before (Plain i ∷ xs ++ rest)))) (omega arith) (leads_step N K s (With (n + (cost xs + most)) (Before (Plain i ∷ xs ++ rest))) (With (cost xs + most) (Before (xs ++ rest))) (with_lasts _ _ (before_lasts (Plain i ∷ xs ++ rest))) (word_steps i (xs ++ rest) (cost xs + most) k) more.0)))
-          (λ k. leads_less (suc N) N K K s (With (n + cost xs + most) (Before (Plain i ∷ xs ++ rest))) (omega arith) (omega arith)
-          (leads_step N K s (With (n + cost xs + most) (Before (Plain i ∷ xs ++ rest))) (Either (With (cost xs + most) (Before (xs ++ rest))) (With (cost xs + most) (Before (behind xs ++ rest)))) (with_lasts _ _ (before_lasts (Plain i ∷ xs ++ rest)))
-          (skip_steps i xs k)
-          (leads_either N K s _ _ more.0 more.1)))
-          d.0,
-          loose (cost xs) (n + cost xs) xs (omega arith) more.0) where
+          let n : ℕ = cond (is_break i.kind) 0 1 in (
+            ⊎_elim
+                (λ k. leads_less (suc N) N K K s (With (n + cost xs + most) (Before (Plain i ∷ xs ++ rest))) (omega arith) (omega arith)
+                (subst (λ z. Leads (suc N) K s (With z (Before (Plain i ∷ xs ++ rest)))) (omega arith) (leads_step N K s (With (n + (cost xs + most)) (Before (Plain i ∷ xs ++ rest))) (With (cost xs + most) (Before (xs ++ rest))) (with_lasts _ _ (before_lasts (Plain i ∷ xs ++ rest))) (word_steps i (xs ++ rest) (cost xs + most) k) more.0)))
+                (λ k. leads_less (suc N) N K K s (With (n + cost xs + most) (Before (Plain i ∷ xs ++ rest))) (omega arith) (omega arith)
+                (leads_step N K s (With (n + cost xs + most) (Before (Plain i ∷ xs ++ rest))) (Either (With (cost xs + most) (Before (xs ++ rest))) (With (cost xs + most) (Before (behind xs ++ rest)))) (with_lasts _ _ (before_lasts (Plain i ∷ xs ++ rest)))
+                (skip_steps i xs k)
+                (leads_either N K s _ _ more.0 more.1)))
+                d.0,
+            loose (cost xs) (n + cost xs) xs (omega arith) more.0,
+          ) where
             skip_steps : (i : Ins) (xs : List Item) → Skips i xs → Steps (With (cond (is_break i.kind) 0 1 + cost xs + most) (Before (Plain i ∷ xs ++ rest))) (Either (With (cost xs + most) (Before (xs ++ rest))) (With (cost xs + most) (Before (behind xs ++ rest))))
             skip_steps i xs k m u d =
                 let counts : cond {A = ℕ} (is_break i.kind) 0 1 ≡ 1 = ap (λ b. cond {A = ℕ} b 0 1) (no_break i.kind class.Branch k.0 (λ e. absurd (cc))) in
                 let h = d.1 in
                 inr (m - 1, omega (arith, h, counts), ⊎_elim (λ a. inl (a, omega (arith, h, counts))) (λ a. inr (a, omega (arith, h, counts))) (skipped w free stores P keeper u i xs rest d.0.0 d.0.1 k))
       both (Constant r v ∷ xs) d =
-          let more = both xs d.1 in
-          (leads_less (suc (suc N)) N K K s (With (2 + cost xs + most) (Before (Constant r v ∷ xs ++ rest))) (omega arith) (omega arith)
-          (leads_step (suc N) K s (With (2 + cost xs + most) (Before (Constant r v ∷ xs ++ rest))) (With (1 + cost xs + most) (Middle r v (xs ++ rest))) (with_lasts _ _ (before_lasts (Constant r v ∷ xs ++ rest))) (first_steps r v (xs ++ rest) (1 + cost xs + most) (2 + cost xs + most) (omega arith) d.0)
-          (leads_step N K s (With (1 + cost xs + most) (Middle r v (xs ++ rest))) (With (cost xs + most) (Before (xs ++ rest))) (with_lasts _ _ (middle_lasts r v (xs ++ rest))) (second_steps r v (xs ++ rest) (cost xs + most) (1 + cost xs + most) (omega arith) d.0) more.0)),
-          loose (cost xs) (2 + cost xs) xs (omega arith) more.0)
+          let more = both xs d.1 in (
+            leads_less (suc (suc N)) N K K s (With (2 + cost xs + most) (Before (Constant r v ∷ xs ++ rest))) (omega arith) (omega arith)
+                (leads_step (suc N) K s (With (2 + cost xs + most) (Before (Constant r v ∷ xs ++ rest))) (With (1 + cost xs + most) (Middle r v (xs ++ rest))) (with_lasts _ _ (before_lasts (Constant r v ∷ xs ++ rest))) (first_steps r v (xs ++ rest) (1 + cost xs + most) (2 + cost xs + most) (omega arith) d.0)
+                (leads_step N K s (With (1 + cost xs + most) (Middle r v (xs ++ rest))) (With (cost xs + most) (Before (xs ++ rest))) (with_lasts _ _ (middle_lasts r v (xs ++ rest))) (second_steps r v (xs ++ rest) (cost xs + most) (1 + cost xs + most) (omega arith) d.0) more.0)),
+            loose (cost xs) (2 + cost xs) xs (omega arith) more.0,
+          )
       both (Go t ∷ xs) d = absurd d
 
       pub leads_keep : (xs : List Item) → Keep free stores xs → Leads N K s (With (cost xs + most) (Before (xs ++ rest)))

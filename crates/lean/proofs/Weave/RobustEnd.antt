@@ -208,14 +208,18 @@ module _ (w : World) (bound price : ℕ) where
         let l = spent (bound ≤ price) price top stop few 4 5 (reg u 15 + 8) m (omega arith) a.2 in
         let low = w.low u.pc i code in
         let grain = w.grain u.pc i code in
-        inr (l.0, l.1, ⊎_elim
-        (λ e.
-        let b = branch_taken w u i (u.pc + 4 + 4) o code refl (eq-eqb (reg u 30) (reg u 31) e) (omega (arith, low)) (omega (arith, grain)) in
-        inr (subst (λ y. Half w x t y × (y.pc ≡ p + 4 + 4) × Left (bound ≤ price) price top stop few 4 (reg y 15 + 8) l.0) (sym (sym (one_run u) ∙ b.ends)) (half_moved w x t u (u.pc + 4 + 4) a.0, ap (λ q. q + 4 + 4) a.1, l.2)))
-        (λ ne.
-        let b = branch_passed w u i o code refl (ne_eqb (reg u 30) (reg u 31) ne) in
-        inl (subst (λ y. Half w x t y × (y.pc ≡ p + 4)) (sym (sym (one_run u) ∙ b.ends)) (half_moved w x t u (u.pc + 4) a.0, ap (λ q. q + 4) a.1)))
-        (cases_eq (reg u 30) (reg u 31)))
+        inr (
+          l.0,
+          l.1,
+          ⊎_elim
+              (λ e.
+              let b = branch_taken w u i (u.pc + 4 + 4) o code refl (eq-eqb (reg u 30) (reg u 31) e) (omega (arith, low)) (omega (arith, grain)) in
+              inr (subst (λ y. Half w x t y × (y.pc ≡ p + 4 + 4) × Left (bound ≤ price) price top stop few 4 (reg y 15 + 8) l.0) (sym (sym (one_run u) ∙ b.ends)) (half_moved w x t u (u.pc + 4 + 4) a.0, ap (λ q. q + 4 + 4) a.1, l.2)))
+              (λ ne.
+              let b = branch_passed w u i o code refl (ne_eqb (reg u 30) (reg u 31) ne) in
+              inl (subst (λ y. Half w x t y × (y.pc ≡ p + 4)) (sym (sym (one_run u) ∙ b.ends)) (half_moved w x t u (u.pc + 4) a.0, ap (λ q. q + 4) a.1)))
+              (cases_eq (reg u 30) (reg u 31)),
+        )
 
     fires_on : (N K p : ℕ) (s : State) → w.code p ≡ Known (ins Ebreak 0 0 0 (pos 0)) → Leads w bound price N K s (Fires p)
     fires_on N K p s k =
@@ -374,14 +378,18 @@ module _ (w : World) (bound price : ℕ) where
           let e = computes w bound price i u (half_over w x t u half) r.0 refl in
           let low = w.low u.pc i r.0 in
           let far : u.pc + 8 ≡ u.pc + 4 + 4 = omega arith in
-          inr (m - 1, omega (arith, many), subst (Cursor start n (m - 1)) (sym e) (record {
-            half = half_spare w x t u 15 (result Auipc i u) (u.pc + 4) refl half;
-            from = u.pc;
-            low = omega (arith, low);
-            word = r.1;
-            reads = subst (λ p. Reads false w.code w.entry p (words stop rest)) far r.2;
-            left = inl (slice_index-set_reg_same u.regs 15 (result Auipc i u) (omega arith) (omega (arith, long)), omega (arith, many));
-          }))
+          inr (
+            m - 1,
+            omega (arith, many),
+            subst (Cursor start n (m - 1)) (sym e) (record {
+              half = half_spare w x t u 15 (result Auipc i u) (u.pc + 4) refl half;
+              from = u.pc;
+              low = omega (arith, low);
+              word = r.1;
+              reads = subst (λ p. Reads false w.code w.entry p (words stop rest)) far r.2;
+              left = inl (slice_index-set_reg_same u.regs 15 (result Auipc i u) (omega arith) (omega (arith, long)), omega (arith, many));
+            }),
+          )
 
       stop_on : Steps w bound price (Cursor start n) Heads
       stop_on m u a =

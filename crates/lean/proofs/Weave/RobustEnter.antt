@@ -249,40 +249,40 @@ module _ (w : World) (near : w.form.far ≡ false) where
     restored_half u v p h q =
         half_regs w a a t u (set_reg 14 w.distance (set_reg 14 v u.regs)) q h (length-set_reg (set_reg 14 v u.regs) 14 w.distance ∙ length-set_reg u.regs 14 v ∙ h.standing.flagged.regs) low
         (other 16 (λ e. absurd (omega (arith, e))) ∙ h.sign) where
-      other : (q : ℕ) → (q ≡ 14 → ⊥) → slice_index (set_reg 14 w.distance (set_reg 14 v u.regs)) q ≡ reg u q
-      other q ne = slice_index-set_reg_other (set_reg 14 v u.regs) 14 w.distance q ne ∙ slice_index-set_reg_other u.regs 14 v q ne
+          other : (q : ℕ) → (q ≡ 14 → ⊥) → slice_index (set_reg 14 w.distance (set_reg 14 v u.regs)) q ≡ reg u q
+          other q ne = slice_index-set_reg_other (set_reg 14 v u.regs) 14 w.distance q ne ∙ slice_index-set_reg_other u.regs 14 v q ne
 
-      low : (q : ℕ) → q ≤ 14 → slice_index (set_reg 14 w.distance (set_reg 14 v u.regs)) q ≡ reg u q
-      low q l =
-          ⊎_elim
-          (λ e.
-          ap (slice_index (set_reg 14 w.distance (set_reg 14 v u.regs))) e
-          ∙ slice_index-set_reg_same (set_reg 14 v u.regs) 14 w.distance (omega arith) (let long = h.standing.flagged.regs in let n = length-set_reg u.regs 14 v in omega (arith, long, n))
-          ∙ sym h.distance ∙ ap (reg u) (sym e))
-          (λ ne. other q ne)
-          (cases_eq q 14)
+          low : (q : ℕ) → q ≤ 14 → slice_index (set_reg 14 w.distance (set_reg 14 v u.regs)) q ≡ reg u q
+          low q l =
+              ⊎_elim
+              (λ e.
+              ap (slice_index (set_reg 14 w.distance (set_reg 14 v u.regs))) e
+              ∙ slice_index-set_reg_same (set_reg 14 v u.regs) 14 w.distance (omega arith) (let long = h.standing.flagged.regs in let n = length-set_reg u.regs 14 v in omega (arith, long, n))
+              ∙ sym h.distance ∙ ap (reg u) (sym e))
+              (λ ne. other q ne)
+              (cases_eq q 14)
 
     -- x31 may be set
     restored_set : (u : State) (v p : ℕ) → Restored u → Restored (moved (set_reg 31 v u.regs) p u)
     restored_set u v p f q =
         half_regs w a a t (moved (set_reg 14 w.distance u.regs) 0 u) (set_reg 14 w.distance (set_reg 31 v u.regs)) q (f 0)
         (length-set_reg (set_reg 31 v u.regs) 14 w.distance ∙ length-set_reg u.regs 31 v ∙ long) low (same 16 (λ e. absurd (omega (arith, e))) ∙ (f 0).sign) where
-      long : length u.regs ≡ 32
-      long = restored_long u f
+          long : length u.regs ≡ 32
+          long = restored_long u f
 
-      same : (q : ℕ) → (q ≡ 31 → ⊥) → slice_index (set_reg 14 w.distance (set_reg 31 v u.regs)) q ≡ slice_index (set_reg 14 w.distance u.regs) q
-      same q ne =
-          ⊎_elim
-          (λ e.
-          ap (slice_index (set_reg 14 w.distance (set_reg 31 v u.regs))) e
-          ∙ slice_index-set_reg_same (set_reg 31 v u.regs) 14 w.distance (omega arith) (let n = length-set_reg u.regs 31 v in omega (arith, long, n))
-          ∙ sym (slice_index-set_reg_same u.regs 14 w.distance (omega arith) (omega (arith, long)))
-          ∙ ap (slice_index (set_reg 14 w.distance u.regs)) (sym e))
-          (λ other. slice_index-set_reg_other (set_reg 31 v u.regs) 14 w.distance q other ∙ slice_index-set_reg_other u.regs 31 v q ne ∙ sym (slice_index-set_reg_other u.regs 14 w.distance q other))
-          (cases_eq q 14)
+          same : (q : ℕ) → (q ≡ 31 → ⊥) → slice_index (set_reg 14 w.distance (set_reg 31 v u.regs)) q ≡ slice_index (set_reg 14 w.distance u.regs) q
+          same q ne =
+              ⊎_elim
+              (λ e.
+              ap (slice_index (set_reg 14 w.distance (set_reg 31 v u.regs))) e
+              ∙ slice_index-set_reg_same (set_reg 31 v u.regs) 14 w.distance (omega arith) (let n = length-set_reg u.regs 31 v in omega (arith, long, n))
+              ∙ sym (slice_index-set_reg_same u.regs 14 w.distance (omega arith) (omega (arith, long)))
+              ∙ ap (slice_index (set_reg 14 w.distance u.regs)) (sym e))
+              (λ other. slice_index-set_reg_other (set_reg 31 v u.regs) 14 w.distance q other ∙ slice_index-set_reg_other u.regs 31 v q ne ∙ sym (slice_index-set_reg_other u.regs 14 w.distance q other))
+              (cases_eq q 14)
 
-      low : (q : ℕ) → q ≤ 14 → slice_index (set_reg 14 w.distance (set_reg 31 v u.regs)) q ≡ slice_index (set_reg 14 w.distance u.regs) q
-      low q l = same q (λ e. absurd (omega (arith, l, e)))
+          low : (q : ℕ) → q ≤ 14 → slice_index (set_reg 14 w.distance (set_reg 31 v u.regs)) q ≡ slice_index (set_reg 14 w.distance u.regs) q
+          low q l = same q (λ e. absurd (omega (arith, l, e)))
 
     -- behind the load
     abbrev Loaded : State → Type 0
@@ -309,11 +309,13 @@ module _ (w : World) (near : w.form.far ≡ false) where
           let s = table_load w u a tb o tab 14 31 u.regs u.pc rest b.1 (λ e. absurd (omega (arith, e))) (to_far u.pc (Plain (ins Lw DISTANCE SPARE 0 (pos 0)) ∷ rest) r) in
           let is : step u ≡ moved (set_reg 14 v u.regs) s.pc u = sym (one_run u) ∙ s.walk.ends in
           let e31 : reg (step u) 31 ≡ a + 2 * d = ap (λ y. reg y 31) is ∙ slice_index-set_reg_other u.regs 14 v 31 (λ e. absurd (omega (arith, e))) ∙ b.1 in
-          let e14 : reg (step u) 14 ≡ v = ap (λ y. reg y 14) is ∙ slice_index-set_reg_same u.regs 14 v (omega arith) (omega (arith, long)) in
-          ((
-          (subst Restored (sym is) (restored_half u v s.pc h), ap (λ n. (reg (step u) 31 + n) % 2 ^ 64) e14 ∙ ap (λ n. (n + v) % 2 ^ 64) e31 ∙ turned (a + 2 * d) v (w.entry a) there),
-          subst (λ p. Reads false w.code w.entry p rest) (sym (ap (λ y. y.pc) is)) (to_near s.pc rest s.reads)),
-          ap (λ y. reg y 15) is ∙ slice_index-set_reg_other u.regs 14 v 15 (λ e. absurd (omega (arith, e)))) where
+          let e14 : reg (step u) 14 ≡ v = ap (λ y. reg y 14) is ∙ slice_index-set_reg_same u.regs 14 v (omega arith) (omega (arith, long)) in (
+            (
+              (subst Restored (sym is) (restored_half u v s.pc h), ap (λ n. (reg (step u) 31 + n) % 2 ^ 64) e14 ∙ ap (λ n. (n + v) % 2 ^ 64) e31 ∙ turned (a + 2 * d) v (w.entry a) there),
+              subst (λ p. Reads false w.code w.entry p rest) (sym (ap (λ y. y.pc) is)) (to_near s.pc rest s.reads),
+            ),
+            ap (λ y. reg y 15) is ∙ slice_index-set_reg_other u.regs 14 v 15 (λ e. absurd (omega (arith, e))),
+          ) where
             turned : (n v e : ℕ) → (v + n) % 2 ^ 64 ≡ e → (n + v) % 2 ^ 64 ≡ e
             turned n v e h = omega (arith, h)
 
@@ -354,8 +356,10 @@ module _ (w : World) (near : w.form.far ≡ false) where
             one_word i P Q rest n k h lasts
             (λ u b.
             let e = computes w bound price i u (over u b.0) b.1.0 c in
-            inr ((subst Q (sym e) (goes u (u.pc + 4) b.0), subst (λ p. Reads false w.code w.entry p rest) (sym (ap (λ y. y.pc) e)) b.1.1),
-            ap (λ y. reg y 15) e ∙ slice_index-set_reg_other u.regs i.rd (result i.kind i u) 15 ne))
+            inr (
+              (subst Q (sym e) (goes u (u.pc + 4) b.0), subst (λ p. Reads false w.code w.entry p rest) (sym (ap (λ y. y.pc) e)) b.1.1),
+              ap (λ y. reg y 15) e ∙ slice_index-set_reg_other u.regs i.rd (result i.kind i u) 15 ne,
+            ))
             on
 
         -- the words of the second look-up, from its end

@@ -180,13 +180,13 @@ module _ (f g : Program) (w : World) (of : Describes f g w) (regs : List ℕ) (a
     long = long0;
     zero_reg = zero0;
     half = λ p. record {
-        going = refl;
-        standing = record { code = of.output_code; flagged = record { flags = λ q. ap (λ m. flags_at m q) of.output; regs = long_all; zero_reg = original_zero 0 (omega arith) } };
-        sourced = first_sourced f g w of;
-        sign = read_back all u0.regs 16 long0 refl;
-        distance = read_back all u0.regs 14 long0 refl;
-        originals = λ q h. original_zero q h ∙ sym (zeros_zero 32 q);
-        bytes = λ q e. ap (λ m. byte_at m q) of.output ∙ of.bytes q e ∙ sym (ap (λ m. byte_at m q) of.input);
-        fixed = λ q h k. ap (λ m. get m q) of.output;
-      };
+      going = refl;
+      standing = record { code = of.output_code; flagged = record { flags = λ q. ap (λ m. flags_at m q) of.output; regs = long_all; zero_reg = original_zero 0 (omega arith) } };
+      sourced = first_sourced f g w of;
+      sign = read_back all u0.regs 16 long0 refl;
+      distance = read_back all u0.regs 14 long0 refl;
+      originals = λ q h. original_zero q h ∙ sym (zeros_zero 32 q);
+      bytes = λ q e. ap (λ m. byte_at m q) of.output ∙ of.bytes q e ∙ sym (ap (λ m. byte_at m q) of.input);
+      fixed = λ q h k. ap (λ m. get m q) of.output;
+    };
   }

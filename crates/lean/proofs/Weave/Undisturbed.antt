@@ -2,10 +2,10 @@
 use Rattle.std.proofs.Common.{◌≡◌, ℕ, zero, suc, ◌+◌, ◌*◌, ◌/◌, ◌^◌, ◌≤◌, ◌⊎◌, inl, inr, ⊎_elim, Bool, true, false, List, [], ◌∷◌, length, is_some, refl, sym, ap, ◌∙◌, subst, arith}
 use Rattle.std.specs.Prelude.{◌-◌, ◌↔◌}
 use Rattle.std.proofs.lemmas.Bool.{cases_eq}
-use Rattle.std.proofs.Math.Nat.{mul-le-mul_left}
-use Rattle.qed_model.specs.Promise.Kept.{after_input, Halves, Steady, IsSteady}
+use Rattle.std.proofs.Math.Nat.{mul-le-mul_left, mul-le-mul_right}
+use Rattle.qed_model.specs.Promise.Kept.{after_input, after_output, Halves, Steady, IsSteady}
 use Rattle.qed_model.specs.declared.change.Change.{Change}
-use Rattle.qed_model.specs.Promise.Changed.{changed_run, with_changes}
+use Rattle.qed_model.specs.Promise.Changed.{changed_run}
 use Rattle.qed_model.specs.Weave.Blocks.{begins_at}
 use Rattle.qed_model.specs.Weave.LeanCode.{Lean}
 use Rattle.qed_model.specs.Weave.Lean.{cost, begin}
@@ -13,8 +13,8 @@ use Rattle.qed_model.specs.Weave.Sequences.{Reads, Block, compare, visit, visit_
 use Rattle.weave_core.specs.Leaving.{sweep_cost}
 use Rattle.weave_core.specs.Rows.{Sourced}
 use Rattle.weave_core.specs.WeaveLaws.{Met}
-use Rattle.weave_core.specs.World.{World, GoodSpans, Program, Going, Ended, AreStartRegs, Item, Go, start, zeros, State, get, flags_at, reg, step, run}
-use Rattle.lean.specs.Undisturbed.{HasOriginals, ComesTo, AllDuplicate, FollowsTo, change_price, Undisturbed, undisturbed_piece, undisturbed_ends}
+use Rattle.weave_core.specs.World.{World, GoodSpans, Program, Going, Ended, AreStartRegs, Item, Ins, Known, next, Go, start, zeros, State, get, flags_at, reg, step, run}
+use Rattle.lean.specs.Undisturbed.{HasOriginals, ComesTo, AllDuplicate, SlipsDuplicate, slipped_run, FollowsTo, change_price, Undisturbed, undisturbed_piece, undisturbed_ends}
 use Rattle.lean.specs.Strayed.{IsOver}
 use Rattle.lean.specs.Woven.{LeanPlan, LeanUndisturbed}
 use Rattle.lean.proofs.Weave.Carry.{run-more, run-none, met_same, Standing, standing_run, some-flags, first_sourced, steady_rest}
@@ -22,12 +22,13 @@ use Rattle.lean.proofs.Weave.Chain.{cost_append}
 use Rattle.lean.proofs.Weave.Half.{Half}
 use Rattle.lean.proofs.Weave.Inside.{sized_run}
 use Rattle.lean.proofs.Weave.Promise.{begins}
-use Rattle.lean.proofs.Weave.Robust.{Robust, Every, With, Before_words, words_last, half_met}
+use Rattle.lean.proofs.Weave.Robust.{Disturbed, Robust, Every, With, Before_words, words_last, half_met}
 use Rattle.lean.proofs.Weave.RobustEnd.{Room, end_most, sweep_most}
 use Rattle.lean.proofs.Weave.RobustLeave.{Entered, go_enters}
 use Rattle.lean.proofs.Weave.RobustRun.{round, entry_cost, entered_leads}
 use Rattle.lean.proofs.Weave.RobustStart.{Awaits, awaits_last, begin_words, start_awaits}
-use Rattle.lean.proofs.Weave.Trail.{hits, made, made_zero, made_few, robust_more, robust_with, with_stands, follows}
+use Rattle.lean.proofs.Weave.Trail.{Played, robust_more, robust_disturbed, follows, changes_play, first_changes}
+use Rattle.lean.proofs.Weave.DuplicateSlips.{slip_disturbs, slip_plays, slip_begins}
 use Rattle.machine.proofs.Lemmas.{run-last}
 
 -- ---- steps
@@ -121,14 +122,21 @@ module _ (f g : Program) (w : World) (l : Lean) (blocks : List Block) (p : LeanP
   entered fee top dear paid n k s u st h = entered_leads f g w l blocks p bound fee (enough fee) dear top paid k n k s (omega arith) n k (most fee) u (omega arith) (omega arith) st (h, omega arith)
 
   -- ---- without changes
-  unchanged : (u : State) (n : ℕ) → changed_run u [] n ≡ run u n
-  unfolding changed_run with_changes
-  unchanged u zero = sym (run-none u)
-  unchanged u (suc n) = let e : n + 1 ≡ suc n = omega arith in ap step (unchanged u n) ∙ sym (run-last u n) ∙ ap (run u) e
+  plain : (u : State) → Played w (run u) 0
+  plain u = record {
+    made = λ j. 0;
+    few = λ j. omega arith;
+    goes = λ j. let e : suc j ≡ j + 1 = omega arith in inl (ap (run u) e ∙ run-last u j, omega arith);
+  }
 
   -- a price below the bound
   abbrev cheap : ℕ
   cheap = round f g w l blocks p bound 0
+
+  nothing : (x : ℕ) → (0 - x) * cheap ≡ 0
+  nothing x = let e : 0 - x ≡ 0 = omega arith in ap (λ z. z * cheap) e ∙ none cheap where
+    none : (c : ℕ) → 0 * c ≡ 0
+    none c = omega arith
 
   free : bound ≤ cheap → Room w cheap 0
   free h = absurd (let e = enough 0 in omega (arith, h, e))
@@ -141,20 +149,16 @@ module _ (f g : Program) (w : World) (l : Lean) (blocks : List Block) (p : LeanP
     by a b = let m = met_same w _ _ _ _ (sym a) (sym b) (half_met w bound cheap s.pc s u h) in (halves_of _ _ m, m.ends)
   comes (suc n) s u st h e =
       let fuel = suc (most cheap + suc n * bound + 0) in
-      let r = entered cheap 0 (omega arith) free (fuel * 1) (suc n) s u st e in
-      let r0 = subst (Robust w bound cheap (fuel * 1) (suc n) (step s) (most cheap)) (sym (unchanged u 0 ∙ run-none u)) r in
-      let st0 = subst (Standing w.code w.output) (sym (unchanged u 0 ∙ run-none u)) h.standing in
-      let m = follows g w p.world.output bound cheap some u [] (λ z. absurd (omega (arith, z))) tt fuel (fuel * 1) 0 (suc n) (step s) (most cheap) r0 st0 (omega arith) (omega arith) in
+      let r = entered cheap 0 (omega arith) free (fuel * 2) (suc n) s u st e in
+      let m = follows w bound cheap some (run u) 0 (λ z. absurd (omega (arith, z))) (plain u) fuel (fuel * 2) 0 (suc n) (step s) (most cheap) (subst (Robust w bound cheap (fuel * 2) (suc n) (step s) (most cheap)) (sym (run-none u)) r) (omega arith) (let spare = nothing ((plain u).made 0) in omega (arith, spare)) in
       let within = m.within n (omega arith) in
+      let spare = nothing ((plain u).made 0) in
       let sum = enough cheap in
       let last = ends_few in
       record {
         steps = m.at n;
-        within = total (m.at n) n (omega (arith, within, sum, last));
-        is = ⊎_elim
-            (λ o. inl (subst (λ y. IsOver y.outcome) (unchanged u (m.at n)) o))
-            (λ k. inr (by (run s (suc n)) (run u (m.at n)) (subst (λ y. Met w y (run (step s) n)) (unchanged u (m.at n)) k)))
-            (m.values n (omega arith));
+        within = total (m.at n) n (omega (arith, within, sum, last, spare));
+        is = ⊎_elim (λ o. inl o) (λ k. inr (by (run s (suc n)) (run u (m.at n)) k)) (m.values n (omega arith));
       } where
         some : 1 ≤ bound
         some = omega arith
@@ -188,15 +192,16 @@ module _ (f g : Program) (w : World) (l : Lean) (blocks : List Block) (p : LeanP
     unfolding Robust
     goes_first N K zero k m u n_le k_le st d = tt
     goes_first N K (suc n) zero m u n_le k_le st d = tt
-    goes_first N K (suc n) (suc k) m u n_le k_le st d =
-        (⊎_elim
-        (λ o. inl o)
-        (λ e.
-        let sum = enough dear in
-        let few = d.1 in
-        inr (m - 1, omega (arith, few), inr (half_met w bound dear s0.pc s0 (step u) e.0, robust_more g w p.world.output bound dear n k (step s0) (most dear) (m - 1 + bound) (step u) (omega (arith, sum, few)) (entered dear top pays paid n k s0 (step u) (st k refl) e))))
-        (go_enters w l leader p.sound bound dear f.entry s0 u [] refl p.begins (d.0.0.half u.pc, d.0.1)),
-        λ v one c. goes_first N K n (suc k) (m + dear) v (omega (arith, n_le)) k_le st (words_last w bound dear (Awaits w s0 f.entry []) (Go f.entry ∷ []) (awaits_last w s0 f.entry bound dear [] tt) u v d.0 c, (let few = d.1 in omega (arith, few))))
+    goes_first N K (suc n) (suc k) m u n_le k_le st d = (
+      ⊎_elim
+          (λ o. inl o)
+          (λ e.
+          let sum = enough dear in
+          let few = d.1 in
+          inr (m - 1, omega (arith, few), inr (half_met w bound dear s0.pc s0 (step u) e.0, robust_more w bound dear n k (step s0) (most dear) (m - 1 + bound) (step u) (omega (arith, sum, few)) (entered dear top pays paid n k s0 (step u) (st k refl) e))))
+          (go_enters w l leader p.sound bound dear f.entry s0 u [] refl p.begins (d.0.0.half u.pc, d.0.1)),
+      λ v one c. goes_first N K n (suc k) (m + dear) v (omega (arith, n_le)) k_le st (words_last w bound dear (Awaits w s0 f.entry []) (Go f.entry ∷ []) (awaits_last w s0 f.entry bound dear [] tt) u v d.0 c, (let few = d.1 in omega (arith, few))),
+    )
 
     -- what runs first
     starts : (n k : ℕ) (regs : List ℕ) → AreStartRegs regs → First k → Robust w bound dear n k s0 (31 + end_most w) (start g regs)
@@ -207,39 +212,60 @@ module _ (f g : Program) (w : World) (l : Lean) (blocks : List Block) (p : LeanP
         begin_words w s0 f.entry bound dear First n k (1 + end_most w) known.low (omega (arith, top_low)) (goes_first n k) n k (31 + end_most w) (start g regs) (omega arith) (omega arith) st
         ((start_awaits f g w p.world regs are f.entry, reads), omega arith)
 
-    -- with any changes
-    keeps_to :
-        (regs : List ℕ) (cs : List Change) (n : ℕ) → AreStartRegs regs → AllDuplicate g w.base w.distance cs → Steady f w.reached n
-        → FollowsTo f n (31 + bound + ends + length cs * dear) bound (changed_run (start g regs) cs)
-    unfolding changed_run
-    keeps_to regs cs n are all st =
-        let u = start g regs in
-        let c = length cs in
-        let fuel = suc (31 + end_most w + hits cs 0 * dear + suc n * bound + (c - made cs 0) * dear) in
-        let moves = fuel * suc c in
+    first_stands : (regs : List ℕ) → AreStartRegs regs → Standing w.code w.output (start g regs)
+    first_stands regs are =
         let first = start_awaits f g w p.world regs are f.entry in
-        let su : Standing w.code w.output u = record { code = first.over.code; flagged = record { flags = λ q. ap (λ m. flags_at m q) p.world.output; regs = first.long; zero_reg = first.zero_reg } } in
-        let some : 1 ≤ c → bound ≤ dear = λ z. omega arith in
-        let r = starts (c + moves) (suc n) regs are (λ j e. subst (IsSteady w.reached s0) (let k : n ≡ j = omega (arith, e) in k) st) in
-        let r0 = robust_with g w p.world.output bound dear cs 0 moves (suc n) s0 (31 + end_most w) u some all su r in
-        let s1 = with_stands g w p.world.output cs 0 u all su in
-        let m = follows g w p.world.output bound dear (omega arith) u cs some all fuel moves 0 (suc n) s0 (31 + end_most w + hits cs 0 * dear) r0 s1 (omega arith) (omega arith) in
-        let few = costs cs in
+        record { code = first.over.code; flagged = record { flags = λ q. ap (λ m. flags_at m q) p.world.output; regs = first.long; zero_reg = first.zero_reg } }
+
+    -- a run from there whose duplicate half is changed
+    plays_to :
+        (regs : List ℕ) (y : ℕ → State) (c n : ℕ) (q : Played w y c) → AreStartRegs regs → (y 0 ≡ start g regs) ⊎ (Disturbed w (start g regs) (y 0) × (1 ≤ q.made 0)) → Steady f w.reached n
+        → FollowsTo f n (31 + bound + ends + c * dear) bound y
+    plays_to regs y c n q are front st =
+        let m0 = 31 + end_most w in
+        let fuel = suc (m0 + c * dear + suc n * bound + c * dear) in
+        let known : First (suc n) = λ j e. subst (IsSteady w.reached s0) (let k : n ≡ j = omega (arith, e) in k) st in
+        let r = at_first fuel known in
+        let m = follows w bound dear (omega arith) y c (λ one. omega arith) q fuel (fuel * 2) 0 (suc n) s0 r.0 r.1 (omega arith) (let k = r.2 in omega (arith, k)) in
         let last = ends_few in
+        let fits = r.2 in
         record {
           at = m.at;
           grows = λ k h. m.grows k (omega (arith, h));
-          within = λ k h. let a = m.within k (omega (arith, h)) in omega (arith, a, few, last);
-          values = λ k h. ⊎_elim (λ o. inl o) (λ q. inr (halves_of (run s0 k) (changed_run u cs (m.at k)) q, q.ends)) (m.values k (omega (arith, h)));
+          within = λ k h. let a = m.within k (omega (arith, h)) in omega (arith, a, fits, last);
+          values = λ k h. ⊎_elim (λ o. inl o) (λ z. inr (halves_of (run s0 k) (y (m.at k)) z, z.ends)) (m.values k (omega (arith, h)));
         } where
-          costs : (cs : List Change) → hits cs 0 * dear + (length cs - made cs 0) * dear ≡ length cs * dear
-          costs cs =
-              let z = made_zero cs in
-              let f = made_few cs 0 in
-              let sum : hits cs 0 + (length cs - made cs 0) ≡ length cs = omega (arith, z, f) in
-              distribute (hits cs 0) (length cs - made cs 0) dear ∙ ap (λ x. x * dear) sum where
-                distribute : (a b p : ℕ) → a * p + b * p ≡ (a + b) * p
-                distribute a b p = omega arith
+          at_first : (fuel : ℕ) → First (suc n) → (b : ℕ) × Robust w bound dear (fuel * 2) (suc n) s0 b (y 0) × (b + (c - q.made 0) * dear ≤ 31 + end_most w + c * dear)
+          at_first fuel known =
+              ⊎_elim
+              (λ e.
+              let few : (c - q.made 0) * dear ≤ c * dear = mul-le-mul_right dear (omega arith) in
+              (31 + end_most w, subst (Robust w bound dear (fuel * 2) (suc n) s0 (31 + end_most w)) (sym e) (starts (fuel * 2) (suc n) regs are known), omega (arith, few)))
+              (λ d.
+              let one = d.1 in
+              let few = q.few 0 in
+              let sum : dear + (c - q.made 0) * dear ≡ suc (c - q.made 0) * dear = omega arith in
+              let le : suc (c - q.made 0) * dear ≤ c * dear = mul-le-mul_right dear (omega (arith, one, few)) in
+              (31 + end_most w + dear, robust_disturbed w bound dear (fuel * 2) (suc n) s0 (31 + end_most w) (start g regs) (y 0) (omega arith) d.0 (starts (suc (fuel * 2)) (suc n) regs are known), omega (arith, sum, le)))
+              front
+
+    -- with any changes
+    keeps_to : (regs : List ℕ) (cs : List Change) (n : ℕ) → AreStartRegs regs → AllDuplicate g w.base w.distance cs → Steady f w.reached n
+        → FollowsTo f n (31 + bound + ends + length cs * dear) bound (changed_run (start g regs) cs)
+    keeps_to regs cs n are all st =
+        let su = first_stands regs are in
+        plays_to regs (changed_run (start g regs) cs) (length cs) n (changes_play g w p.world.output (start g regs) cs all su) are (first_changes g w p.world.output (start g regs) cs all su) st
+
+    -- with a slip
+    slips_to : (regs : List ℕ) (m n : ℕ) (i : Ins) (v : State) → AreStartRegs regs → (after_output g regs m).outcome ≡ Going → next (after_output g regs m) ≡ Known i → (after_output g regs (m + 1)).outcome ≡ Going
+        → SlipsDuplicate g w.base w.distance i (after_output g regs m) v → Steady f w.reached n → FollowsTo f n (31 + bound + ends + dear) bound (slipped_run g regs m v)
+    slips_to regs m n i v are going known goes s st =
+        let u = after_output g regs m in
+        let su : Standing w.code w.output u = standing_run w.code w.output w.output_fixed m (start g regs) (first_stands regs are) in
+        let d = slip_disturbs g w p.world.output i u su going known (ap (λ y. y.outcome) (sym (run-last (start g regs) m)) ∙ goes) v s in
+        let one : 1 * dear ≡ dear = omega arith in
+        subst (λ c. FollowsTo f n (31 + bound + ends + c) bound (slipped_run g regs m v)) one
+        (plays_to regs (slipped_run g regs m v) 1 n (slip_plays g w p.world.output regs m v d) are (inl (slip_begins g w p.world.output regs m v d)) st)
 
   undisturbed : Undisturbed f g w.reached w.base w.distance w.entry blocks bound ends
   undisturbed = record {
@@ -249,6 +275,7 @@ module _ (f g : Program) (w : World) (l : Lean) (blocks : List Block) (p : LeanP
         subst (λ t. ComesTo f t u ((n + 1) * bound + ends)) (sym (run-more (start f zeros) k n))
         (comes n s u (steady_rest w.reached (start f zeros) k n st) half (half, h.here, leads));
     keeps = λ regs cs n top are all none low st. keeps_to top (λ q h. ap (λ m. is_some (get m q)) (sym p.world.output) ∙ none q h) low regs cs n are all st;
+    slips = λ regs m n top i v are going known goes s none low st. slips_to top (λ q h. ap (λ m. is_some (get m q)) (sym p.world.output) ∙ none q h) low regs m n i v are going known goes s st;
   }
 
 pub lean_undisturbed : LeanUndisturbed
