@@ -86,9 +86,9 @@ abbrev pub slipped_run : Program → List ℕ → ℕ → State → ℕ → Stat
 slipped_run g regs n v j = cond (nat_le j n) (after_output g regs j) (run v (j - (n + 1)))
 
 -- ---- what follows
--- the run whose states are given comes to the input's states up to that after n steps, one after the other, to the first within
--- `first` steps and to each later one within `bound` more: a check has fired, a step has trapped, or the original half has
--- the input's values, and then the run has ended exactly if the input has
+-- A run, given by its states, comes to the input's states after 0, 1, up to n steps, one after the other. It comes to the first
+-- within `first` steps, and to each later one within `bound` more. There the original half has the input's values, and the
+-- run has ended exactly if the input has; or before it a check has fired, or a step has trapped
 pub record FollowsTo (f : Program) (n first bound : ℕ) (states : ℕ → State) : Type 0 where
   pub at : ℕ → ℕ
   pub grows : (k : ℕ) → k < n → at k < at (suc k)

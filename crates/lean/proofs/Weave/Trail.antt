@@ -44,8 +44,8 @@ step_stopped s h = at s.outcome h where
 
 module _ (w : World) where
   -- ---- runs with changes
-  -- each state is a step behind the one before, or such a state with the duplicate half changed; `made` counts these changes, of which
-  -- there are at most `all`
+  -- each state is a step behind the one before, or that with the duplicate half changed. There are at most `all` such changes,
+  -- and `made` counts them
   pub record Played (y : ℕ → State) (all : ℕ) : Type 0 where
     pub made : ℕ → ℕ
     pub few : (j : ℕ) → made j ≤ all
