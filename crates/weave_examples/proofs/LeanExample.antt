@@ -1,41 +1,49 @@
 -- The known test with a loop in the lean form, with entries that test the signature: it has words, and its promises on
 -- jumps that land wrong, on x14 and on the duplicate half are at work, with computed runs.
-use Rattle.std.proofs.Common.{◌≡◌, ◌⊎◌, inl, inr, ⊎_elim, ℕ, zero, suc, ◌+◌, ◌*◌, ◌%◌, ◌≤◌, true, false, not, List, [], ◌∷◌, Some, None, is_some, refl, sym, ap, ◌∙◌, subst, arith}
+use Rattle.std.proofs.Common.{◌≡◌, ◌⊎◌, inl, inr, ⊎_elim, ℕ, zero, suc, ◌+◌, ◌*◌, ◌%◌, ◌<◌, ◌≤◌, true, false, not, List, [], ◌∷◌, length, Option, Some, None, is_some, refl, sym, ap, ◌∙◌, subst, arith}
 use Rattle.std.specs.Prelude.{pos, slice_index, ◌==◌, ◌||◌}
 use Rattle.std.proofs.lemmas.Bool.{false≢true, eqb-true, eq-eqb, or_cases, not-true}
-use Rattle.rv_isa.specs.declared.class.Class.TheVariants as class
 use Rattle.tests.specs.declared.options.Options.{Options}
 use Rattle.tests.specs.declared.options.Entries.TheVariants as entries
 use Rattle.tests.specs.Admission.Leaders.{HasIndirect, is_indirect, IsLeader, Begins, Entry, Target, After, Named, Reached, Even}
 use Rattle.tests.specs.Admission.Refusals.{IsAdmitted}
 use Rattle.tests.specs.Elf.FileRead.{file_read}
 use Rattle.machine.specs.Loading.{loaded_file}
-use Rattle.machine.proofs.Lemmas.{every_all}
+use Rattle.machine.specs.Cells.{cell_among}
+use Rattle.machine.specs.Numbers.{bytes_of}
+use Rattle.machine.specs.Struck.{struck}
+use Rattle.machine.specs.declared.place.Place.TheVariants.{Reg, Word}
+use Rattle.machine.proofs.Lemmas.{AllSized, every_all, every_among, found_among, get_among, has_not, has_parts, none_among}
+use Rattle.qed_model.specs.declared.change.Change.{Change}
+use Rattle.qed_model.specs.Promise.Changed.{changed_run, with_changes}
 use Rattle.qed_model.specs.Weave.Sequences.{Block, End, Falls, Stops}
 use Rattle.qed_model.specs.Weave.Blocks.{AreBlocks, IsBlockOf, IsMarked, StopsAt, begins_at}
 use Rattle.qed_model.specs.Weave.SoundOptions.{AreSoundOptions}
-use Rattle.qed_model.specs.Weave.Placed.{placed}
+use Rattle.qed_model.specs.Weave.OutputFile.{table_bytes}
+use Rattle.qed_model.specs.Weave.Placed.{placed, rows_from}
 use Rattle.qed_model.specs.Weave.LeanCode.{lean_items}
 use Rattle.qed_model.specs.Weave.LeanBounds.{lean_bounds}
 use Rattle.qed_model.specs.Promise.Faults.{FaultsFound, gives}
 use Rattle.qed_model.specs.Promise.InStep.{SettlesWithin}
-use Rattle.qed_model.specs.Promise.Kept.{after_input, after_output}
+use Rattle.qed_model.specs.Promise.Kept.{after_input, after_output, is_mapped}
 use Rattle.qed_model.specs.Promise.Landed.{placed_at}
 use Rattle.qed_model.proofs.ExampleCode as code
 use Rattle.qed_model.proofs.Lemmas.{defaults, covers_steady}
-use Rattle.weave_core.specs.World.{Program, memory_of, start, zeros, Going, Fired, Ins, Addi, Known, State, byte_at, class_of, get, HasAt, fetched_at, moved, next, next_pc, reg, run, set_reg, DISTANCE, CURSOR, SIGNATURE, execute, jumped, computed_value, value, holds}
+use Rattle.weave_core.specs.World.{Program, Cell, allows, memory_of, start, zeros, Going, Ended, Fired, Ins, Addi, Known, State, byte_at, class_of, get, HasAt, fetched_at, moved, next, next_pc, reg, run, set_reg, DISTANCE, CURSOR, SIGNATURE, execute, jumped, computed_value, value, holds}
 use Rattle.weave_core.proofs.FileOfItems as of
+use Rattle.weave_core.proofs.FilesFit.{length-table}
 use Rattle.tests.proofs.Lemmas.{zeros_start}
 use Rattle.lean.specs.Tests.{AreLeanBlocks, IsLeanTest, lean_file}
 use Rattle.machine.specs.Members.{Among, Every}
 use Rattle.machine.specs.Table.{Ecall, ins}
 use Rattle.lean.specs.Strayed.{IsInBlock, Strayed, Displaced, Adrift, Stopped, HasCount, with_distance, displaced_steps, code_in, entry_in}
-use Rattle.lean.specs.Undisturbed.{Undisturbed, HasOriginals, ComesTo, undisturbed_piece, undisturbed_ends}
+use Rattle.lean.specs.Undisturbed.{Undisturbed, HasOriginals, ComesTo, FollowsTo, AllDuplicate, undisturbed_piece, undisturbed_ends, change_price, slipped_run, writes}
 use Rattle.lean.proofs.Weave.Tests as lean
 use Rattle.weave_examples.proofs.KnownFiles.{loop, loop_sound}
 use Rattle.weave_examples.proofs.LoopExample.{loop_code, loop_known, loop_blocks, loop_each, loop_are}
 use Rattle.weave_examples.proofs.LoopKept.{loop_input, none, steady_none}
 use Rattle.weave_examples.proofs.ListedRuns.{found, go, is_simple_run, run_is, state_of}
+use Rattle.weave_examples.proofs.ListedChanges.{changes_go}
 
 -- ---- the test
 -- the options: those of no option beside the form, with short pieces
@@ -269,3 +277,85 @@ first_settles =
 first_fires : (run wrong_first 42).outcome ≡ Fired
 unfolding execute jumped computed_value value holds
 first_fires = ap (λ s. (run (moved (set_reg 1 7 s.regs) (next_pc s) s) 42).outcome) at_start ∙ ap (λ s. s.outcome) (runs 42 (state_of lean_output (set_reg 1 7 zeros) 0x13004 Going) refl refl refl)
+
+-- ---- changes of the duplicate half, at any steps
+-- the new code ends below 0x14000
+size : length (bytes_of lean_words.0) ≡ 608
+size = of.length-code loop options sound loop_sound.loads admitted loop_blocks are false true (lean_items loop options 1200 loop_blocks) lean_words.0 (lean.are_items loop options 1200 loop_blocks cut lean_words.0 lean_words.1)
+
+table_size : length (table_bytes 4096 (rows_from false 0x13000 (lean_items loop options 1200 loop_blocks))) ≡ 16
+table_size = length-table 4096 (rows_from false 0x13000 (lean_items loop options 1200 loop_blocks))
+
+sized : AllSized lean_output.segments
+sized = (omega arith, (omega arith, (omega arith, (omega arith, tt))))
+
+low : Every (λ t. t.address + t.size ≤ 0x14000) lean_output.segments
+low = (omega arith, (omega arith, (omega (arith, table_size), (omega (arith, size), tt))))
+
+unmapped : (q : ℕ) → 0x14000 ≤ q → is_mapped lean_output q ≡ false
+unmapped q l =
+    ap is_some (get_among lean_output.segments q sized ∙ none_among lean_output.segments q (λ s m. let h = every_among (λ t. t.address + t.size ≤ 0x14000) s lean_output.segments low m in has_not s q (inr (omega (arith, h, l)))))
+
+-- the new code alone is executed
+fixed : Every (λ t. (t.flags.execute ≡ false) ⊎ (0x13000 ≤ t.address)) lean_output.segments
+fixed = (inl refl, (inl refl, (inl refl, (inr (omega arith), tt))))
+
+unexecuted : (q : ℕ) → q < 0x13000 → allows (λ c. c.execute) (get (memory_of lean_output.segments) q) ≡ false
+unexecuted q l = ap (allows (λ c. c.execute)) (get_among lean_output.segments q sized) ∙ by (cell_among lean_output.segments q) refl where
+  by : (o : Option Cell) → cell_among lean_output.segments q ≡ o → allows (λ c. c.execute) o ≡ false
+  by None e = refl
+  by (Some c) e =
+      let f = found_among lean_output.segments q c e in
+      let from = (has_parts f.segment q f.holds).0 in
+      ap (λ k. k.flags.execute) f.cell_is ∙ ⊎_elim (λ h. h) (λ h. absurd (omega (arith, h, from, l))) (every_among (λ t. (t.flags.execute ≡ false) ⊎ (0x13000 ≤ t.address)) f.segment lean_output.segments fixed f.among)
+
+-- x15 is 0 at the first entry, so the first tick passes; later x20 is 9, and the pair of the first code word 7
+abbrev few : Change
+few = record { step = 31; place = Reg 15; value = 0 }
+
+abbrev nine : Change
+nine = record { step = 40; place = Reg 20; value = 9 }
+
+abbrev word : Change
+word = record { step = 45; place = Word 0x11000; value = 7 }
+
+duplicate : AllDuplicate lean_output 0x10000 4096 (few ∷ nine ∷ word ∷ [])
+duplicate = (inl refl, (inr (omega arith, omega arith), (record { above = omega arith; below = omega arith; no_code = λ q a b. unexecuted q (omega (arith, b)) }, tt)))
+
+-- all premises are met
+keeps_there : FollowsTo loop_input 6 (31 + undisturbed_piece true 0 1 + undisturbed_ends [] + 3 * change_price (undisturbed_piece true 0 1) (undisturbed_ends []) 0x14000) (undisturbed_piece true 0 1) (changed_run (start lean_output zeros) (few ∷ nine ∷ word ∷ []))
+keeps_there = undisturbed.keeps zeros (few ∷ nine ∷ word ∷ []) 6 0x14000 zeros_start duplicate unmapped (omega arith) (steady_none 6 (omega arith))
+
+-- the comparison at the end of the test fires with step 70; without the change of x20 the run ends with step 84
+keeps_fires : (changed_run (start lean_output zeros) (few ∷ nine ∷ word ∷ []) 70).outcome ≡ Fired
+unfolding changed_run with_changes struck execute jumped computed_value value holds
+keeps_fires = ap (λ s. s.outcome) (changes_go 0x13000 new_code (omega arith) (start lean_output zeros) (few ∷ nine ∷ word ∷ []) 0 70 (start lean_output zeros) (tt, (tt, (omega arith, tt))) refl stand refl)
+
+keeps_ends : (changed_run (start lean_output zeros) (few ∷ word ∷ []) 84).outcome ≡ Ended
+unfolding changed_run with_changes struck execute jumped computed_value value holds
+keeps_ends = ap (λ s. s.outcome) (changes_go 0x13000 new_code (omega arith) (start lean_output zeros) (few ∷ word ∷ []) 0 84 (start lean_output zeros) (tt, (omega arith, tt)) refl stand refl)
+
+-- ---- a slip of an instruction that writes there: x20 gets 9, not 0
+before_slip : after_output lean_output zeros 16 ≡ state_of lean_output zeros 0x13040 Going
+unfolding execute jumped computed_value value holds
+before_slip = runs 16 (start lean_output zeros) refl refl refl
+
+behind_slip : (after_output lean_output zeros 17).outcome ≡ Going
+unfolding execute jumped computed_value value holds
+behind_slip = ap (λ s. s.outcome) (runs 17 (start lean_output zeros) refl refl refl)
+
+slip_next : next (after_output lean_output zeros 16) ≡ Known (ins Addi 20 0 0 (pos 0))
+slip_next = ap next before_slip ∙ found (fetched_at (memory_of lean_output.segments) lean_output.ranges) 0x13000 new_code 0x13040 (ins Addi 20 0 0 (pos 0)) stand refl
+
+abbrev slipped : State
+slipped = moved (set_reg 20 9 (after_output lean_output zeros 16).regs) (next_pc (after_output lean_output zeros 16)) (after_output lean_output zeros 16)
+
+-- all premises are met
+slips_there : FollowsTo loop_input 6 (31 + undisturbed_piece true 0 1 + undisturbed_ends [] + change_price (undisturbed_piece true 0 1) (undisturbed_ends []) 0x14000) (undisturbed_piece true 0 1) (slipped_run lean_output zeros 16 slipped)
+slips_there =
+    undisturbed.slips zeros 16 6 0x14000 (ins Addi 20 0 0 (pos 0)) slipped zeros_start (ap (λ s. s.outcome) before_slip) slip_next behind_slip (writes (inl refl) (inr (omega arith, omega arith)) (gives 9 refl)) unmapped (omega arith) (steady_none 6 (omega arith))
+
+-- the check that the first tick calls fires with step 46
+slips_fires : (slipped_run lean_output zeros 16 slipped 46).outcome ≡ Fired
+unfolding execute jumped computed_value value holds
+slips_fires = ap (λ s. (run (moved (set_reg 20 9 s.regs) (next_pc s) s) 29).outcome) before_slip ∙ ap (λ s. s.outcome) (runs 29 (state_of lean_output (set_reg 20 9 zeros) 0x13044 Going) refl refl refl)

@@ -85,7 +85,7 @@ going _ e = absurd (cc)
 
 -- if the instructions stand in the code, the run is that of the list
 module _ (m : Memory) (ranges : List (ℕ × ℕ)) (base : ℕ) (is : List Ins) (stand : HasAt (fetched_at m ranges) base is) where
-  step_is :
+  pub step_is :
       (x : Option Ins) (s : State) → instruction_at base is s.pc ≡ x → is_going s.outcome ≡ true → is_simple_at x ≡ true → s.memory ≡ m
       → s.ranges ≡ ranges → (step s ≡ go_at x s) × SameCode (go_at x s) s
   step_is None s e g p n r = absurd (cc)
