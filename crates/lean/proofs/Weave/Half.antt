@@ -1,18 +1,17 @@
 -- The original half of the output alone has the input's values, whatever pairs, counter and duplicate half have: what words do to it.
-use Rattle.std.proofs.Common.{◌≡◌, ℕ, zero, suc, ◌+◌, ◌*◌, ◌^◌, ◌<◌, ◌≤◌, ◌⊎◌, inl, inr, ⊎_elim, Bool, true, false, cond, not, List, ◌++◌, length, is_some, refl, sym, ap, ◌∙◌, subst, arith}
+use Rattle.std.proofs.Common.{◌≡◌, ℕ, zero, suc, ◌+◌, ◌*◌, ◌^◌, ◌<◌, ◌≤◌, ◌⊎◌, inl, inr, ⊎_elim, Bool, true, false, cond, not, List, length, is_some, refl, sym, ap, ◌∙◌, subst, arith}
 use Rattle.std.specs.Prelude.{◌==◌, ◌&&◌, ◌||◌, nat_le, slice_index}
-use Rattle.std.proofs.lemmas.Bool.{and_parts, or_cases, eqb-true, eq-eqb, leb-true, cases_eq, false≢true, not-true}
+use Rattle.std.proofs.lemmas.Bool.{and_parts, or_cases, eqb-true, eq-eqb, leb-true, cases_eq, false≢true, not-true, and_from, or_right, le-leb, ne_eqb}
 use Rattle.rv_isa.specs.declared.class.Class.TheVariants as class
 use Rattle.machine.specs.declared.outcome.Cause.TheVariants as cause
 use Rattle.machine.specs.declared.outcome.Cause.{Cause}
 use Rattle.machine.specs.Table.{Ins}
 use Rattle.qed_model.specs.Promise.Kept.{is_trapped}
-use Rattle.qed_model.specs.Weave.Sequences.{Reads, original, LAST_ORIGINAL, DISTANCE, SIGNATURE}
-use Rattle.qed_model.specs.Weave.Lean.{cost}
+use Rattle.qed_model.specs.Weave.Sequences.{Reads, LAST_ORIGINAL, DISTANCE, SIGNATURE, pair}
 use Rattle.weave_core.specs.Rows.{Sourced}
-use Rattle.weave_core.specs.World.{World, Item, Going, get, byte_at, grants, number, width_of, loaded, State, reg, set_reg, moved, trapped, place, result, next_pc, execute, Known, next, step, run, Class, class_of}
+use Rattle.weave_core.specs.World.{World, Item, Going, get, byte_at, grants, number, width_of, loaded, State, reg, set_reg, moved, trapped, place, result, next_pc, execute, Known, step, Class, class_of}
 use Rattle.lean.specs.Strayed.{IsOver}
-use Rattle.lean.proofs.Weave.Carry.{Keep, keeps, keeps_as, Carried, carry, Comes, slice_index-set_reg_other, slice_index-set_reg_same, slice_index-set_reg_zero, length-set_reg, step-class, Over, known_at, pc_four, Standing}
+use Rattle.lean.proofs.Weave.Carry.{keeps, keeps_as, Carried, slice_index-set_reg_other, slice_index-set_reg_same, slice_index-set_reg_zero, length-set_reg, step-class, Over, known_at, pc_four, Standing}
 
 -- ---- registers
 -- x0, x15, and x17 to x31
@@ -37,8 +36,13 @@ spare_out l d v q e low =
     (λ nz. slice_index-set_reg_other l d v q (λ same. spare_apart d q e (omega (arith, nz)) low same))
     (cases_eq q 0)
 
--- an original is set in both
-set_alike : (us ss : List ℕ) (r v q : ℕ) → length us ≡ 32 → length ss ≡ 32 → r ≤ LAST_ORIGINAL → slice_index us q ≡ slice_index ss q → slice_index (set_reg r v us) q ≡ slice_index (set_reg r v ss) q
+-- pairs are among them
+pub spare_pair : (r : ℕ) → is_spare (pair r) ≡ true
+spare_pair zero = refl
+spare_pair (suc r) = or_right (suc r + 16 == 0) _ (and_from _ _ (le-leb 15 (suc r + 16) (omega arith)) (ap not (ne_eqb (suc r + 16) 16 (λ e. absurd (omega (arith, e))))))
+
+-- a register set in two lists
+pub set_alike : (us ss : List ℕ) (r v q : ℕ) → length us ≡ 32 → length ss ≡ 32 → r < 32 → slice_index us q ≡ slice_index ss q → slice_index (set_reg r v us) q ≡ slice_index (set_reg r v ss) q
 set_alike us ss zero v q lu ls h e = e
 set_alike us ss (suc k) v q lu ls h e =
     ⊎_elim
@@ -98,9 +102,22 @@ module _ (w : World) where
     sourced = so;
     sign = slice_index-set_reg_other u.regs r v 16 (λ e. absurd (omega (arith, h, e))) ∙ a.sign;
     distance = slice_index-set_reg_other u.regs r v 14 (λ e. absurd (omega (arith, h, e))) ∙ a.distance;
-    originals = λ q l. set_alike u.regs s.regs r v q a.standing.flagged.regs a.sourced.flagged.regs h (a.originals q l);
+    originals = λ q l. set_alike u.regs s.regs r v q a.standing.flagged.regs a.sourced.flagged.regs (omega (arith, h)) (a.originals q l);
     bytes = a.bytes;
     fixed = a.fixed;
+  }
+
+  -- the input's state at another pc
+  pub half_view : (z : ℕ) (s t u : State) (p : ℕ) → Half z s u → t ≡ moved s.regs p s → Sourced w t → Half z t u
+  half_view z s t u p h e so = record {
+    going = h.going;
+    standing = h.standing;
+    sourced = so;
+    sign = h.sign;
+    distance = h.distance;
+    originals = λ q m. h.originals q m ∙ sym (ap (λ y. reg y q) e);
+    bytes = λ q m. h.bytes q m ∙ sym (ap (λ y. byte_at y.memory q) e);
+    fixed = h.fixed;
   }
 
   -- ---- words that write no register below x15, and not x16
@@ -139,12 +156,14 @@ module _ (w : World) where
     goes = λ u p a. half_moved x s u p a;
   }
 
-  pub half_carry : (xs : List Item) → Keep is_spare false xs → (x : ℕ) (s u : State) (rest : List Item) → Half x s u → Reads false w.code w.entry u.pc (xs ++ rest) → Comes (Into x s rest) u (cost xs)
-  half_carry xs d x s u rest a r = carry w is_spare false (Half x s) (half_keeps x s) xs d u rest a r
-
   -- with a number in one of these registers, which the words do not write
   abbrev pub Holding : ℕ → State → ℕ → ℕ → State → Type 0
   Holding x s r n u = Half x s u × (reg u r ≡ n)
+
+  pub holding_set : (x : ℕ) (s u : State) (r v n p : ℕ) → is_spare r ≡ true → 1 ≤ r → r < 32 → Half x s u → v ≡ n → Holding x s r n (moved (set_reg r v u.regs) p u)
+  holding_set x s u r v n p spare one few h e =
+      let long = h.standing.flagged.regs in
+      (half_spare x s u r v p spare h, slice_index-set_reg_same u.regs r v one (omega (arith, long, few)) ∙ e)
 
   but_other : (l : List ℕ) (r d v : ℕ) → but r d ≡ true → slice_index (set_reg d v l) r ≡ slice_index l r
   but_other l r d v e = slice_index-set_reg_other l d v r (λ same. false≢true (sym (not-true (d == r) (and_parts _ _ e).1) ∙ ap (λ n. n == r) (sym same) ∙ same_is r)) where
@@ -164,8 +183,3 @@ module _ (w : World) where
 
   abbrev pub IntoHolding : ℕ → State → ℕ → ℕ → List Item → State → Type 0
   IntoHolding x s r n rest y = Holding x s r n y × Reads false w.code w.entry y.pc rest
-
-  pub holding_carry :
-      (xs : List Item) (r : ℕ) → Keep (but r) false xs → but r 0 ≡ true → (x : ℕ) (s : State) (n : ℕ) (u : State) (rest : List Item) → Holding x s r n u → Reads false w.code w.entry u.pc (xs ++ rest)
-      → Comes (IntoHolding x s r n rest) u (cost xs)
-  holding_carry xs r d some x s n u rest a h = carry w (but r) false (Holding x s r n) (holding_keeps x s r n some) xs d u rest a h

@@ -1,32 +1,33 @@
 -- A leave, where the duplicate half changes at any steps: the next entry has the input's values in the original half, or the run is over.
 use Rattle.std.proofs.Common.{◌≡◌, ℕ, zero, suc, ◌+◌, ◌%◌, ◌^◌, ◌<◌, ◌≤◌, ◌⊎◌, inl, inr, ⊎_elim, Bool, true, false, cond, not, List, [], ◌∷◌, ◌++◌, refl, sym, ap, ◌∙◌, subst, arith, append_assoc}
-use Rattle.std.specs.Prelude.{◌==◌, ◌-◌, ◌||◌, ℤ, pos, neg_ℤ, nat_le, slice_index, ◌+ℤ◌, ◌-ℤ◌}
-use Rattle.std.proofs.lemmas.Bool.{and_from, or_cases, or_right, eqb-true, le-leb, leb-true, cases_eq, ne_eqb}
+use Rattle.std.specs.Prelude.{◌==◌, ◌||◌, ℤ, pos, neg_ℤ, nat_le, slice_index, ◌+ℤ◌, ◌-ℤ◌}
+use Rattle.std.proofs.lemmas.Bool.{or_cases, or_right, eqb-true, le-leb, leb-true, cases_eq, ne_eqb}
 use Rattle.std.proofs.lemmas.Int.{ints}
 use Rattle.rv_isa.specs.declared.class.Class.TheVariants as class
 use Rattle.machine.specs.declared.outcome.Cause.TheVariants as cause
-use Rattle.machine.specs.Table.{ins, Ins, Lui, Add, Addi, Andi, Beq, Jal, Jalr}
+use Rattle.machine.specs.Table.{ins, Ins, Lui, Add, Addi, Andi, Jal}
 use Rattle.machine.specs.Offsets.{distance_between, upper_part, lower_part}
-use Rattle.qed_model.specs.Promise.Kept.{is_trapped, NotTrapped, IsSteady, LeadsToReached}
+use Rattle.qed_model.specs.Promise.Kept.{is_trapped, IsSteady, LeadsToReached}
 use Rattle.qed_model.specs.Weave.Lean.{is_short, turn_by, turn, goes, opposite, check_way, taken, take_target, turn_leap, called, check_distance, look_up, look_again, leave_as, cost}
 use Rattle.qed_model.specs.Weave.LeanCode.{Lean, fall_to}
 use Rattle.qed_model.specs.Weave.Placed.{sum_of_sizes}
-use Rattle.qed_model.specs.Weave.Sequences.{Reads, fired_check, guard, links, LAST_ORIGINAL, DISTANCE, SIGNATURE, TEMPORARY, SPARE, pair}
-use Rattle.weave_core.specs.Blocks.{Goes, TableAt, IsEntryOf}
+use Rattle.qed_model.specs.Weave.Sequences.{Reads, guard, links, LAST_ORIGINAL, DISTANCE, SIGNATURE, TEMPORARY, SPARE, pair}
+use Rattle.weave_core.specs.Blocks.{Goes}
 use Rattle.weave_core.specs.Rows.{Sourced}
 use Rattle.weave_core.specs.WeaveLaws.{Met}
-use Rattle.weave_core.specs.World.{World, Quiet, Item, Mark, Plain, Constant, Go, State, reg, set_reg, moved, trapped, jumped, imm, next_pc, wrapped, holds, result, Known, step, target, class_of, byte_at}
+use Rattle.weave_core.specs.World.{World, Item, Mark, Plain, Constant, Go, State, reg, set_reg, moved, trapped, jumped, imm, next_pc, wrapped, holds, result, Known, step, target, class_of}
 use Rattle.weave_core.proofs.Lemmas.{step-jump}
 use Rattle.lean.specs.Strayed.{IsOver}
 use Rattle.lean.specs.Woven.{LeanIn}
-use Rattle.lean.proofs.Weave.Carry.{Keep, Carried, keep_guard, keep_distance, Leaps, leap_step, aim, entry_leap, andi_value, run-none, Branches, branch_step, branch_to, jump_step, keep_way, Walk, one_run, steady_le, no_code, known_at, Over, step-break, jumped_to, difference, slice_index-set_reg_other, slice_index-set_reg_same, length-set_reg, branch_taken, branch_passed, equal_holds, addi_value, add_result, wrapped-add}
+use Rattle.lean.proofs.Weave.Carry.{Keep, Carried, keep_guard, keep_distance, Leaps, leap_step, aim, andi_value, run-none, Branches, branch_step, branch_to, jump_step, keep_way, no_code, known_at, Over, jumped_to, difference, slice_index-set_reg_other, slice_index-set_reg_same, length-set_reg, branch_taken, branch_passed, addi_value, add_result, wrapped-add}
 use Rattle.lean.proofs.Weave.Chain.{cost_append}
 use Rattle.lean.proofs.Weave.Costs.{guard_most, links_most, turn_most, way_most, goes_most, falls_cost}
-use Rattle.lean.proofs.Weave.Half.{is_spare, Half, Into, Holding, half_over, half_regs, half_spare, half_moved, half_original, spare_step}
+use Rattle.lean.proofs.Weave.Half.{is_spare, Half, Into, Holding, half_over, half_regs, half_spare, half_moved, half_original, spare_step, spare_pair, half_view, holding_set}
 use Rattle.lean.proofs.Weave.Leave.{linking, far_enough, beyond_taken}
-use Rattle.lean.proofs.Weave.Robust.{Robust, half_disturbed, Leads, With, Either, Lasts, with_lasts, Steps, leads_step, leads_less, leads_map, leads_either, leads_word, leads_original, leads_more, leads_as, half_lasts, into_lasts, half_leads, half_met, Before_words, words_last, computes, leads_compute, leads_constant, leads_keep}
+use Rattle.lean.proofs.Weave.Robust.{half_disturbed, Leads, With, Lasts, leads_map, leads_word, leads_original, leads_more, leads_as, half_lasts, into_lasts, half_leads, half_met, Before_words, words_last, computes, leads_compute, leads_constant, leads_keep, Onto, walked, to_far, to_near, steady_calm, leads_steady, holding_lasts, leads_compare, leads_none}
 use Rattle.lean.proofs.Weave.Turn.{lui_value}
 use Rattle.lean.proofs.Weave.Ways.{opposite_is}
+use Rattle.lean.proofs.Weave.RobustEnter.{leap, leap_is, looks_to}
 
 -- both parts together
 parts_sum : (d : ℤ) → (wrapped (upper_part d) + wrapped (lower_part d)) % 2 ^ 64 ≡ wrapped d
@@ -41,11 +42,6 @@ near_turn d = Plain (ins Addi SIGNATURE SIGNATURE 0 d) ∷ []
 abbrev far_turn : ℤ → List Item
 far_turn d =
     Plain (ins Lui TEMPORARY 0 0 (upper_part d)) ∷ Plain (ins Addi TEMPORARY TEMPORARY 0 (lower_part d)) ∷ Plain (ins Add SIGNATURE SIGNATURE TEMPORARY (pos 0)) ∷ []
-
--- pairs are spare
-spare_pair : (r : ℕ) → is_spare (pair r) ≡ true
-spare_pair zero = refl
-spare_pair (suc r) = or_right (suc r + 16 == 0) _ (and_from _ _ (le-leb 15 (suc r + 16) (omega arith)) (ap not (ne_eqb (suc r + 16) 16 (λ e. absurd (omega (arith, e))))))
 
 -- x0, and x15 to x31
 abbrev pub is_upper : ℕ → Bool
@@ -64,109 +60,13 @@ upper_out l (suc d) v q e h =
     ⊎_elim (λ z. let n = eqb-true (suc d) 0 z in absurd (omega (arith, n))) (λ k. let n = leb-true 15 (suc d) k in absurd (omega (arith, n, h, same))) (or_cases (suc d == 0) _ e))
 
 module _ (w : World) (bound price : ℕ) where
-  -- each state with a property and so many steps left is robust
-  abbrev pub Onto : ℕ → ℕ → State → ℕ → (State → Type 0) → Type 0
-  Onto N K s most P = Leads w bound price N K s (With w bound price most P)
-
-  -- ---- the input's next step
-  -- what is asked of it may be taken as given
-  leads_steady : (N K : ℕ) (s : State) (D : ℕ → State → Type 0) → (IsSteady w.reached s 1 → Leads w bound price N (suc K) s D) → Leads w bound price N (suc K) s D
-  unfolding Robust
-  leads_steady N K s D f zero k m u n_le k_le st d = tt
-  leads_steady N K s D f (suc n) zero m u n_le k_le st d = tt
-  leads_steady N K s D f (suc n) (suc k) m u n_le k_le st d = f (steady_le w.reached s 1 (suc k) (omega arith) st) (suc n) (suc k) m u n_le k_le st d
-
-  -- a steady step does not trap
-  calm_step : (s : State) → IsSteady w.reached s 1 → NotTrapped (step s)
-  calm_step s st = subst NotTrapped (one_run s) st.no_trap
-
   -- where the input has no code it makes no step
   pub leads_dead : (N K : ℕ) (t : State) (D : ℕ → State → Type 0) → Sourced w t → ((i : Ins) → w.source t.pc ≡ Known i → ⊥) → Leads w bound price N K t D
-  unfolding Robust
-  leads_dead N K t D so lacks zero k m u n_le k_le st d = tt
-  leads_dead N K t D so lacks (suc n) zero m u n_le k_le st d = tt
-  leads_dead N K t D so lacks (suc n) (suc k) m u n_le k_le st d = absurd (no_code w t so lacks (calm_step t (steady_le w.reached t 1 (suc k) (omega arith) st)))
-
-  -- ---- a comparison
-  -- one step of a walk
-  walked : (u y : State) → Walk (Quiet w) u 1 y → step u ≡ y
-  walked u y k = sym (one_run u) ∙ k.ends
-
-  -- at an EBREAK the next step fires
-  abbrev Breaks : List Item → State → Type 0
-  Breaks rest u = Over w.code u × Reads false w.code w.entry u.pc (fired_check ∷ rest)
-
-  leads_break : (N K : ℕ) (s : State) (rest : List Item) → Onto N K s 0 (Breaks rest)
-  leads_break N K s rest =
-      leads_less w bound price (suc N) N K K s (With w bound price 0 (Breaks rest)) (omega arith) (omega arith)
-      (leads_step w bound price N K s (With w bound price 0 (Breaks rest)) (λ m u. ⊥)
-      (with_lasts w bound price 0 (Breaks rest)
-      (λ u v b d. (record { going = d.going; code = λ p. d.code p ∙ b.0.code p }, subst (λ p. Reads false w.code w.entry p (fired_check ∷ rest)) (sym d.pc) b.1)))
-      (λ m u b. inl (inl (step-break u b.0.0.going (b.0.0.code u.pc ∙ b.0.1.0))))
-      (λ n k m u n_le k_le st d. absurd d))
-
-  -- behind a BEQ over an EBREAK both registers are equal
-  pub leads_compare :
-      (N K : ℕ) (s : State) (r q : ℕ) (P : State → Type 0) (rest : List Item) (few many : ℕ) → suc few ≤ many → Lasts w bound price P
-      → ((u : State) → P u → Over w.code u) → ((u : State) (p : ℕ) → P u → P (moved u.regs p u))
-      → Onto N K s few (Before_words w bound price (λ u. P u × (reg u r ≡ reg u q)) rest)
-      → Onto N K s many (Before_words w bound price P (Plain (ins Beq 0 r q (pos 8)) ∷ fired_check ∷ rest))
-  unfolding holds
-  leads_compare N K s r q P rest few many le lasts over keeps on =
-      leads_less w bound price (suc N) N K K s D (omega arith) (omega arith)
-      (leads_step w bound price N K s D (Either w bound price E F) (with_lasts w bound price many (Before_words w bound price P words) (words_last w bound price P words lasts)) goes
-      (leads_either w bound price N K s E F on (leads_break N K s rest))) where
-        words : List Item
-        words = Plain (ins Beq 0 r q (pos 8)) ∷ fired_check ∷ rest
-
-        D : ℕ → State → Type 0
-        D = With w bound price many (Before_words w bound price P words)
-
-        E : ℕ → State → Type 0
-        E = With w bound price few (Before_words w bound price (λ u. P u × (reg u r ≡ reg u q)) rest)
-
-        F : ℕ → State → Type 0
-        F = With w bound price 0 (Breaks rest)
-
-        goes : Steps w bound price D (Either w bound price E F)
-        goes m u d =
-            let i = ins Beq 0 r q (pos 8) in
-            let o = over u d.0.0 in
-            let low = w.low u.pc i d.0.1.0 in
-            let grain = w.grain u.pc i d.0.1.0 in
-            let h = d.1 in
-            ⊎_elim
-            (λ e.
-            let p = u.pc + 4 + 4 in
-            let is = walked u (moved u.regs p u) (branch_taken w u i p o d.0.1.0 refl (equal_holds (reg u r) (reg u q) e) (omega (arith, low)) (omega (arith, grain))) in
-            inr (m - 1, omega (arith, h, le), inl (subst (Before_words w bound price (λ u. P u × (reg u r ≡ reg u q)) rest) (sym is) ((keeps u p d.0.0, e), d.0.1.1.1), omega (arith, h, le))))
-            (λ ne.
-            let p = u.pc + 4 in
-            let is = walked u (moved u.regs p u) (branch_passed w u i o d.0.1.0 refl (ne_eqb (reg u r) (reg u q) ne)) in
-            inr (m - 1, omega (arith, h, le), inr (subst (Breaks rest) (sym is) (over (moved u.regs p u) (keeps u p d.0.0), d.0.1.1), omega arith)))
-            (cases_eq (reg u r) (reg u q))
+  leads_dead N zero t D so lacks = leads_none w bound price N t D
+  leads_dead N (suc K) t D so lacks = leads_steady w bound price N K t D (λ st. absurd (no_code w t so lacks (steady_calm w.reached t st)))
 
 module _ (w : World) (l : Lean) (leader : ℕ → Bool) (x : LeanIn w l leader) (bound price : ℕ) where
-  -- each state with a property and so many steps left is robust
-  abbrev On : ℕ → ℕ → State → ℕ → (State → Type 0) → Type 0
-  On N K s most P = Leads w bound price N K s (With w bound price most P)
-
-  -- before some words
-  abbrev Before : (State → Type 0) → List Item → State → Type 0
-  Before P xs u = P u × Reads false w.code w.entry u.pc xs
-
-  -- the code is near
-  to_far : (a : ℕ) (xs : List Item) → Reads false w.code w.entry a xs → Reads w.form.far w.code w.entry a xs
-  to_far a xs r = subst (λ b. Reads b w.code w.entry a xs) (sym x.near) r
-
-  to_near : (a : ℕ) (xs : List Item) → Reads w.form.far w.code w.entry a xs → Reads false w.code w.entry a xs
-  to_near a xs r = subst (λ b. Reads b w.code w.entry a xs) x.near r
-
   -- ---- a turn
-  -- no change reaches x30
-  holding_lasts : (z : ℕ) (t : State) (n : ℕ) → Lasts w bound price (Holding w z t 30 n)
-  holding_lasts z t n u v b d = (half_disturbed w z t u v b.0 d, d.thirty ∙ b.1)
-
   -- x16 gets another number
   signs : (z p : ℕ) (t u : State) (v q : ℕ) → Half w z t u → v ≡ p → Half w p t (moved (set_reg 16 v u.regs) q u)
   signs z p t u v q h e =
@@ -174,47 +74,43 @@ module _ (w : World) (l : Lean) (leader : ℕ → Bool) (x : LeanIn w l leader) 
       half_regs w z p t u (set_reg 16 v u.regs) q h (length-set_reg u.regs 16 v ∙ long) (λ r l. slice_index-set_reg_other u.regs 16 v r (λ k. absurd (omega (arith, l, k))))
       (slice_index-set_reg_same u.regs 16 v (omega arith) (omega (arith, long)) ∙ e)
 
-  -- x30 does
-  holds_30 : (z : ℕ) (t u : State) (v n q : ℕ) → Half w z t u → v ≡ n → Holding w z t 30 n (moved (set_reg 30 v u.regs) q u)
-  holds_30 z t u v n q h e = let long = h.standing.flagged.regs in (half_spare w z t u 30 v q refl h, slice_index-set_reg_same u.regs 30 v (omega arith) (omega (arith, long)) ∙ e)
-
-  module _ (a p : ℕ) (la : a < 2 ^ 64) (lp : p < 2 ^ 64) (N K : ℕ) (s t : State) (rest : List Item) (most : ℕ) (on : On N K s most (Into w p t rest)) where
+  module _ (a p : ℕ) (la : a < 2 ^ 64) (lp : p < 2 ^ 64) (N K : ℕ) (s t : State) (rest : List Item) (most : ℕ) (on : Onto w bound price N K s most (Into w p t rest)) where
     -- by one word
-    turn_short : On N K s (1 + most) (Into w a t (near_turn (distance_between a p) ++ rest))
+    turn_short : Onto w bound price N K s (1 + most) (Into w a t (near_turn (distance_between a p) ++ rest))
     turn_short =
         let d = distance_between a p in
-        leads_compute w bound price N K s (ins Addi 16 16 0 d) (Half w a t) (Half w p t) rest most (1 + most) (omega arith) refl (half_lasts w bound price a t) (half_over w a t)
+        leads_compute w bound price _ _ N K (ins Addi 16 16 0 d) (Half w a t) (Half w p t) rest most (1 + most) (omega arith) refl (half_lasts w bound price a t) (half_over w a t)
         (λ u q h. signs a p t u (result Addi (ins Addi 16 16 0 d) u) q h (addi_value u 16 16 a p d h.sign (difference a p la lp)))
         on
 
     -- by three
-    turn_far : On N K s (3 + most) (Into w a t (far_turn (distance_between a p) ++ rest))
+    turn_far : Onto w bound price N K s (3 + most) (Into w a t (far_turn (distance_between a p) ++ rest))
     turn_far =
         let d = distance_between a p in
         let v = wrapped (upper_part d) in
         let hi = ins Lui 30 0 0 (upper_part d) in
         let lo = ins Addi 30 30 0 (lower_part d) in
         let add = ins Add 16 16 30 (pos 0) in
-        leads_compute w bound price N K s hi (Half w a t) (Holding w a t 30 v) (Plain lo ∷ Plain add ∷ rest) (2 + most) (3 + most) (omega arith) refl
+        leads_compute w bound price _ _ N K hi (Half w a t) (Holding w a t 30 v) (Plain lo ∷ Plain add ∷ rest) (2 + most) (3 + most) (omega arith) refl
         (half_lasts w bound price a t) (half_over w a t)
-        (λ u q h. holds_30 a t u (result Lui hi u) v q h (lui_value u 30 (upper_part d)))
-        (leads_compute w bound price N K s lo (Holding w a t 30 v) (Holding w a t 30 (wrapped d)) (Plain add ∷ rest) (1 + most) (2 + most) (omega arith) refl
-        (holding_lasts a t v) (λ u b. half_over w a t u b.0)
-        (λ u q b. holds_30 a t u (result Addi lo u) (wrapped d) q b.0 (addi_value u 30 30 v (wrapped d) (lower_part d) b.1 (parts_sum d)))
-        (leads_compute w bound price N K s add (Holding w a t 30 (wrapped d)) (Half w p t) rest most (1 + most) (omega arith) refl (holding_lasts a t (wrapped d)) (λ u b. half_over w a t u b.0)
+        (λ u q h. holding_set w a t u 30 (result Lui hi u) v q refl (omega arith) (omega arith) h (lui_value u 30 (upper_part d)))
+        (leads_compute w bound price _ _ N K lo (Holding w a t 30 v) (Holding w a t 30 (wrapped d)) (Plain add ∷ rest) (1 + most) (2 + most) (omega arith) refl
+        (holding_lasts w bound price a t v) (λ u b. half_over w a t u b.0)
+        (λ u q b. holding_set w a t u 30 (result Addi lo u) (wrapped d) q refl (omega arith) (omega arith) b.0 (addi_value u 30 30 v (wrapped d) (lower_part d) b.1 (parts_sum d)))
+        (leads_compute w bound price _ _ N K add (Holding w a t 30 (wrapped d)) (Half w p t) rest most (1 + most) (omega arith) refl (holding_lasts w bound price a t (wrapped d)) (λ u b. half_over w a t u b.0)
         (λ u q b. signs a p t u (result Add add u) q b.0 (add_result u 16 16 30 a (wrapped d) p b.0.sign b.1 (difference a p la lp)))
         on))
 
     -- the signature turned
-    turn_leads : On N K s (cost (turn a p) + most) (Into w a t (turn a p ++ rest))
+    turn_leads : Onto w bound price N K s (cost (turn a p) + most) (Into w a t (turn a p ++ rest))
     turn_leads = by (a == p) refl where
       long :
-          (b : Bool) → On N K s (cost (cond b (near_turn (distance_between a p)) (far_turn (distance_between a p))) + most)
+          (b : Bool) → Onto w bound price N K s (cost (cond b (near_turn (distance_between a p)) (far_turn (distance_between a p))) + most)
           (Into w a t (cond b (near_turn (distance_between a p)) (far_turn (distance_between a p)) ++ rest))
       long true = turn_short
       long false = turn_far
 
-      by : (b : Bool) → (a == p) ≡ b → On N K s (cost (cond b [] (turn_by (distance_between a p))) + most) (Into w a t (cond b [] (turn_by (distance_between a p)) ++ rest))
+      by : (b : Bool) → (a == p) ≡ b → Onto w bound price N K s (cost (cond b [] (turn_by (distance_between a p))) + most) (Into w a t (cond b [] (turn_by (distance_between a p)) ++ rest))
       by true e =
           leads_map w bound price N K s _ (With w bound price most (Into w p t rest))
           (λ m u d. ((subst (λ z. Half w z t u) (eqb-true a p e) d.0.0, d.0.1), let h = d.1 in omega (arith, h)))
@@ -283,20 +179,7 @@ module _ (w : World) (l : Lean) (leader : ℕ → Bool) (x : LeanIn w l leader) 
 
   -- each state at the entry where the input's next step leads is robust
   abbrev pub Next : ℕ → ℕ → State → ℕ → Type 0
-  Next N K s most = IsSteady w.reached s 1 → Leads w bound price N K (step s) (With w bound price most (Entered (step s)))
-
-  -- the input's state at another pc
-  half_view : (z : ℕ) (s t u : State) (p : ℕ) → Half w z s u → t ≡ moved s.regs p s → Sourced w t → Half w z t u
-  half_view z s t u p h e so = record {
-    going = h.going;
-    standing = h.standing;
-    sourced = so;
-    sign = h.sign;
-    distance = h.distance;
-    originals = λ q m. h.originals q m ∙ sym (ap (λ y. reg y q) e);
-    bytes = λ q m. h.bytes q m ∙ sym (ap (λ y. byte_at y.memory q) e);
-    fixed = h.fixed;
-  }
+  Next N K s most = IsSteady w.reached s 1 → Onto w bound price N K (step s) most (Entered (step s))
 
   -- a jump leads to the entry
   pub go_enters : (p : ℕ) (t u : State) (rest : List Item) → t.pc ≡ p → leader p ≡ true → Into w p t (Go p ∷ rest) u → IsOver (step u).outcome ⊎ Entered t (step u)
@@ -312,8 +195,8 @@ module _ (w : World) (l : Lean) (leader : ℕ → Bool) (x : LeanIn w l leader) 
   -- ---- to an address
   -- by a jump, where the input stands there already
   goes_lead :
-      (a p : ℕ) (s : State) (N K most : ℕ) (rest : List Item) → a < 2 ^ 64 → Sourced w s → s.pc ≡ p → Goes w leader p → On N K s most (Entered s)
-      → On N K s (cost (goes a p) + most) (Into w a s (goes a p ++ rest))
+      (a p : ℕ) (s : State) (N K most : ℕ) (rest : List Item) → a < 2 ^ 64 → Sourced w s → s.pc ≡ p → Goes w leader p → Onto w bound price N K s most (Entered s)
+      → Onto w bound price N K s (cost (goes a p) + most) (Into w a s (goes a p ++ rest))
   goes_lead a p s N K most rest low so here to on =
       ⊎_elim
       (λ leads.
@@ -323,7 +206,7 @@ module _ (w : World) (l : Lean) (leader : ℕ → Bool) (x : LeanIn w l leader) 
       let c = cost_append (turn a p) (Go p ∷ []) in
       ((d.0.0, subst (λ xs. Reads false w.code w.entry u.pc xs) (append_assoc (turn a p) (Go p ∷ []) rest) d.0.1), omega (arith, h, c)))
       (turn_leads a p low (x.known p leads).low N K s s (Go p ∷ rest) (1 + most)
-      (leads_word w bound price N K s (Into w p s (Go p ∷ rest)) (Entered s) most (1 + most) (omega arith) (into_lasts w bound price p s (Go p ∷ rest))
+      (leads_word w bound price _ _ N K (Into w p s (Go p ∷ rest)) (Entered s) most (1 + most) (omega arith) (into_lasts w bound price p s (Go p ∷ rest))
       (λ u b. go_enters p s u rest here leads b)
       on)))
       (λ lacks. leads_dead w bound price N K s _ so (λ i m. lacks i (ap w.source (sym here) ∙ m)))
@@ -331,8 +214,8 @@ module _ (w : World) (l : Lean) (leader : ℕ → Bool) (x : LeanIn w l leader) 
 
   -- by a fall
   pub falls_lead :
-      (a p : ℕ) (s : State) (N K most : ℕ) → a < 2 ^ 64 → Sourced w s → s.pc ≡ p → Goes w leader p → Leads w bound price N K s (With w bound price most (Entered s))
-      → Leads w bound price N K s (With w bound price (cost (turn a p ++ fall_to leader p) + most) (Into w a s (turn a p ++ fall_to leader p)))
+      (a p : ℕ) (s : State) (N K most : ℕ) → a < 2 ^ 64 → Sourced w s → s.pc ≡ p → Goes w leader p → Onto w bound price N K s most (Entered s)
+      → Onto w bound price N K s (cost (turn a p ++ fall_to leader p) + most) (Into w a s (turn a p ++ fall_to leader p))
   falls_lead a p s N K most low so here to on =
       ⊎_elim
       (λ leads.
@@ -350,7 +233,7 @@ module _ (w : World) (l : Lean) (leader : ℕ → Bool) (x : LeanIn w l leader) 
   -- the jump to the entry makes the input's next state
   go_makes :
       (p : ℕ) (s : State) (N K few many : ℕ) (rest : List Item) → 1 ≤ many → suc few ≤ many + bound → Sourced w (step s) → (step s).pc ≡ p → Goes w leader p → Next N K s few
-      → On N (suc K) s many (Into w p (step s) (Go p ∷ rest))
+      → Onto w bound price N (suc K) s many (Into w p (step s) (Go p ∷ rest))
   go_makes p s N K few many rest some le so here to on =
       ⊎_elim
       (λ leads.
@@ -372,14 +255,14 @@ module _ (w : World) (l : Lean) (leader : ℕ → Bool) (x : LeanIn w l leader) 
   -- the words of a return address: behind them the original half is that of the input's next state
   links_lead :
       (r v z p : ℕ) (s : State) (N K : ℕ) (rest : List Item) (most : ℕ) → r ≤ LAST_ORIGINAL → v < 2 ^ 64 → step s ≡ moved (set_reg r v s.regs) p s → Sourced w (step s)
-      → On N K s most (Into w z (step s) rest) → On N K s (cost (linking w r v) + most) (Into w z s (linking w r v ++ rest))
+      → Onto w bound price N K s most (Into w z (step s) rest) → Onto w bound price N K s (cost (linking w r v) + most) (Into w z s (linking w r v ++ rest))
   links_lead zero v z p s N K rest most m lv is so on =
-      leads_map w bound price N K s _ (With w bound price most (Into w z (step s) rest)) (λ m u d. ((half_view z s (step s) u p d.0.0 is so, d.0.1), let h = d.1 in omega (arith, h))) on
+      leads_map w bound price N K s _ (With w bound price most (Into w z (step s) rest)) (λ m u d. ((half_view w z s (step s) u p d.0.0 is so, d.0.1), let h = d.1 in omega (arith, h))) on
   links_lead (suc r) v z p s N K rest most m lv is so on =
       let lacks : (suc r == 0) ≡ false = ne_eqb (suc r) 0 (λ e. absurd (omega arith)) in
       let both : List Item = Constant (suc r) v ∷ Constant (pair (suc r)) v ∷ [] in
-      subst (λ b. On N K s (cost (cond b [] both) + most) (Into w z s (cond b [] both ++ rest))) (sym lacks)
-      (leads_constant w bound price N K s (suc r) v (Half w z s) (Half w z (step s)) (Constant (pair (suc r)) v ∷ rest) (2 + most) (4 + most) (omega arith) (inl (omega (arith, m))) lv
+      subst (λ b. Onto w bound price N K s (cost (cond b [] both) + most) (Into w z s (cond b [] both ++ rest))) (sym lacks)
+      (leads_constant w bound price _ _ N K (suc r) v (Half w z s) (Half w z (step s)) (Constant (pair (suc r)) v ∷ rest) (2 + most) (4 + most) (omega arith) (inl (omega (arith, m))) lv
       (half_lasts w bound price z s) (half_lasts w bound price z (step s))
       (λ u h. (half_over w z s u h, h.standing.flagged.regs))
       (λ u q h. subst (λ t. Half w z t (moved (set_reg (suc r) v u.regs) q u)) (sym is) (half_original w z s u (suc r) v q p m h (subst (Sourced w) is so)))
@@ -389,10 +272,10 @@ module _ (w : World) (l : Lean) (leader : ℕ → Bool) (x : LeanIn w l leader) 
   pub jump_leads :
       (a : ℕ) (s : State) (i : Ins) (N K most e : ℕ) → a < 2 ^ 64 → Sourced w s → w.source s.pc ≡ Known i → class_of i.kind ≡ class.Jump → i.rd ≤ LAST_ORIGINAL
       → Goes w leader (target i s.pc) → 31 + most ≤ e + bound → Next N K s most
-      → Leads w bound price N (suc K) s (With w bound price (31 + e) (Into w a s (links i s.pc ++ goes a (target i s.pc))))
+      → Onto w bound price N (suc K) s (31 + e) (Into w a s (links i s.pc ++ goes a (target i s.pc)))
   jump_leads a s i N K most e low so has c m to le on =
       leads_steady w bound price N K s _ (λ st.
-      let j = jump_step w s i so has c (calm_step w bound price s st) in
+      let j = jump_step w s i so has c (steady_calm w.reached s st) in
       let t = target i s.pc in
       let few = links_most i s.pc in
       let turns = turn_most a t in
@@ -433,11 +316,11 @@ module _ (w : World) (l : Lean) (leader : ℕ → Bool) (x : LeanIn w l leader) 
     makes : (b : Bool) (u : State) (p : ℕ) (xs : List Item) → Branches w s i b → Half w a s u → step u ≡ moved u.regs p u → Reads false w.code w.entry p xs
         → Met w (step u) (step s) × Into w a (step s) xs (step u)
     makes b u p xs br h e r =
-        let y : Half w a (step s) (step u) = subst (Half w a (step s)) (sym e) (half_view a s (step s) (moved u.regs p u) (branch_to w b i s) (half_moved w a s u p h) br.is br.sourced) in
+        let y : Half w a (step s) (step u) = subst (Half w a (step s)) (sym e) (half_view w a s (step s) (moved u.regs p u) (branch_to w b i s) (half_moved w a s u p h) br.is br.sourced) in
         (half_met w bound price a (step s) (step u) y, (y, subst (λ p. Reads false w.code w.entry p xs) (sym (ap (λ z. z.pc) e)) r))
 
     -- the input's branch is taken, and that of the output is not
-    takes : Branches w s i true → Goes w leader (target i s.pc) → Next N K s most → On N (suc K) s (31 + e) (Into w a s words)
+    takes : Branches w s i true → Goes w leader (target i s.pc) → Next N K s most → Onto w bound price N (suc K) s (31 + e) (Into w a s words)
     takes br to on =
         let t = target i s.pc in
         let more = goes a t ++ other in
@@ -447,14 +330,14 @@ module _ (w : World) (l : Lean) (leader : ℕ → Bool) (x : LeanIn w l leader) 
         leads_original w bound price N K s (Into w a s words) (Into w a (step s) (way ++ more)) (cost way + (cost (goes a t) + most)) (31 + e)
         (omega arith) (omega (arith, le, one, few)) (into_lasts w bound price a s words)
         (λ st u d.
-        let is = walked w bound price u (moved u.regs (u.pc + 4) u) (branch_passed w u own (half_over w a s u d.0) d.1.0 (opposite_is i.kind c).0 (tests true u br d.0)) in
+        let is = walked w u (moved u.regs (u.pc + 4) u) (branch_passed w u own (half_over w a s u d.0) d.1.0 (opposite_is i.kind c).0 (tests true u br d.0)) in
         inr (makes true u (u.pc + 4) (way ++ more) br d.0 is d.1.1))
         (λ st.
         half_leads w bound price way (keep_way is_spare false i.kind i c) N K a (step s) (step s) more (cost (goes a t) + most)
         (goes_lead a t (step s) N K most other low br.sourced br.pc to (on st)))
 
     -- the other way round
-    passes : Branches w s i false → Goes w leader after → Next N K s most → On N (suc K) s (31 + e) (Into w a s words)
+    passes : Branches w s i false → Goes w leader after → Next N K s most → Onto w bound price N (suc K) s (31 + e) (Into w a s words)
     passes br to on =
         let t = target i s.pc in
         let way = check_way (opposite i.kind) i in
@@ -464,9 +347,9 @@ module _ (w : World) (l : Lean) (leader : ℕ → Bool) (x : LeanIn w l leader) 
         (omega arith) (omega (arith, le, one, few)) (into_lasts w bound price a s words)
         (λ st u d.
         let p = u.pc + 4 + size in
-        let k = beyond_taken w leader x.known x.codes x.near i (u.pc + 4) a t other (to_far (u.pc + 4) (taken i a t ++ other) d.1.1) in
+        let k = beyond_taken w leader x.known x.codes x.near i (u.pc + 4) a t other (to_far w x.near (u.pc + 4) (taken i a t ++ other) d.1.1) in
         let b = branch_taken w u own p (half_over w a s u d.0) d.1.0 (opposite_is i.kind c).0 (tests false u br d.0) (far_enough u.pc size k.low) k.grain in
-        inr (makes false u p other br d.0 (walked w bound price u (moved u.regs p u) b) (to_near p other k.reads)))
+        inr (makes false u p other br d.0 (walked w u (moved u.regs p u) b) (to_near w x.near p other k.reads)))
         (λ st.
         half_leads w bound price way (keep_way is_spare false (opposite i.kind) i (opposite_is i.kind c).0) N K a (step s) (step s) behind (cost behind + most)
         (falls_lead a after (step s) N K most low br.sourced br.pc to (on st)))
@@ -475,132 +358,115 @@ module _ (w : World) (l : Lean) (leader : ℕ → Bool) (x : LeanIn w l leader) 
   pub branch_leads :
       (a : ℕ) (s : State) (i : Ins) (N K most e : ℕ) → a < 2 ^ 64 → Sourced w s → w.source s.pc ≡ Known i → class_of i.kind ≡ class.Branch
       → i.rs1 ≤ LAST_ORIGINAL → i.rs2 ≤ LAST_ORIGINAL → Goes w leader (target i s.pc) → Goes w leader ((s.pc + 4) % 2 ^ 64) → 31 + most ≤ e + bound → Next N K s most
-      → Leads w bound price N (suc K) s (With w bound price (31 + e) (Into w a s (leave_as l.distance [] (fall_to leader) class.Branch i a s.pc)))
+      → Onto w bound price N (suc K) s (31 + e) (Into w a s (leave_as l.distance [] (fall_to leader) class.Branch i a s.pc))
   branch_leads a s i N K most e low so has c m1 m2 to on le next =
-      leads_steady w bound price N K s _ (λ st. by (holds i.kind (reg s i.rs1) (reg s i.rs2)) (branch_step w s i so has c (calm_step w bound price s st))) where
-        by : (b : Bool) → Branches w s i b → On N (suc K) s (31 + e) (Into w a s (leave_as l.distance [] (fall_to leader) class.Branch i a s.pc))
+      leads_steady w bound price N K s _ (λ st. by (holds i.kind (reg s i.rs1) (reg s i.rs2)) (branch_step w s i so has c (steady_calm w.reached s st))) where
+        by : (b : Bool) → Branches w s i b → Onto w bound price N (suc K) s (31 + e) (Into w a s (leave_as l.distance [] (fall_to leader) class.Branch i a s.pc))
         by true br = takes a s i N K most e low c m1 m2 le br to next
         by false br = passes a s i N K most e low c m1 m2 le br on next
 
   -- ---- a JALR
-  -- the last word of the look-ups
-  abbrev there : List Item
-  there = Plain (ins Jalr 0 TEMPORARY 0 (pos 0)) ∷ []
-
-  -- the entry is in x30
-  abbrev Found : ℕ → State → State → Type 0
-  Found a t u = Half w a t u × (reg u 30 ≡ w.entry a)
-
-  -- the look-ups, up to their last word
-  abbrev pub LooksTo : Type 0
-  LooksTo =
-      (a : ℕ) (s t : State) (r N K most : ℕ) → TableAt w a → IsEntryOf w a
-      → Leads w bound price N K s (With w bound price most (λ u. (Half w a t u × (reg u 30 ≡ w.entry a)) × Reads false w.code w.entry u.pc (Plain (ins Jalr 0 TEMPORARY 0 (pos 0)) ∷ [])))
-      → Leads w bound price N K s (With w bound price (10 + most) (Into w a t (look_up r ++ look_again w.distance)))
-
   -- the target is an entry, or no code
   pub aim_goes :
       (s : State) (i : Ins) → Sourced w s → w.source s.pc ≡ Known i → class_of i.kind ≡ class.JumpReg
       → ((a : ℕ) → w.reached a ≡ true → a % 4 ≡ 0 → Goes w leader a) → IsSteady w.reached s 1 → Goes w leader (aim s i)
   aim_goes s i so has c to st =
-      let lp = leap_step w s i so has c (calm_step w bound price s st) in
+      let lp = leap_step w s i so has c (steady_calm w.reached s st) in
       let first = subst (LeadsToReached w.reached) (run-none s) (st.leads 0 (omega arith)) in
       to (aim s i) (ap w.reached (sym lp.pc) ∙ first i so.over.going (known_at w.source s i so.over has) c) lp.grain
 
-  module _ (looks_to : LooksTo) (s : State) (i : Ins) (N K most e : ℕ) (m1 : i.rs1 ≤ LAST_ORIGINAL) (m : i.rd ≤ LAST_ORIGINAL) (le : 31 + most ≤ e + bound) where
+  module _ (s : State) (i : Ins) (N K most e : ℕ) (m1 : i.rs1 ≤ LAST_ORIGINAL) (m : i.rd ≤ LAST_ORIGINAL) (le : 31 + most ≤ e + bound) where
     abbrev looks : List Item
     looks = look_up TEMPORARY ++ look_again w.distance
 
     module _ (lp : Leaps w s i) (to : Goes w leader (aim s i)) (on : Next N K s most) where
       -- the last word goes to the entry
-      last_makes : leader (aim s i) ≡ true → On N (suc K) s (5 + e) (Before (Found (aim s i) (step s)) there)
+      last_makes : leader (aim s i) ≡ true → Onto w bound price N (suc K) s (5 + e) (Before_words w bound price (Holding w (aim s i) (step s) 30 (w.entry (aim s i))) (leap w x.near))
       last_makes leads =
           let t = aim s i in
-          leads_original w bound price N K s (Before (Found t (step s)) there) (Entered (step s)) most (5 + e) (omega arith) (omega (arith, le))
-          (λ u v b d. ((half_disturbed w t (step s) u v b.0.0 d, d.thirty ∙ b.0.1), subst (λ p. Reads false w.code w.entry p there) (sym d.pc) b.1))
+          let Found : State → Type 0 = Holding w t (step s) 30 (w.entry t) in
+          leads_original w bound price N K s (Before_words w bound price Found (leap w x.near)) (Entered (step s)) most (5 + e) (omega arith) (omega (arith, le))
+          (words_last w bound price Found (leap w x.near) (holding_lasts w bound price t (step s) (w.entry t)))
           (λ st u b.
-          let r = to_far u.pc there b.1 in
-          let is = walked w bound price u (moved u.regs (w.entry t) u) (entry_leap w u t [] (x.known t leads) b.0.1 (half_over w t (step s) u b.0.0) r) in
+          let is = leap_is w x.near t (step s) u (x.known t leads) b.0 b.1 in
           let h : Half w t (step s) (step u) = subst (Half w t (step s)) (sym is) (half_moved w t (step s) u (w.entry t) b.0.0) in
           inr (half_met w bound price t (step s) (step u) h, (subst (λ q. Half w q (step s) (step u)) (sym lp.pc) h, ap (λ y. y.pc) is ∙ ap w.entry (sym lp.pc), ap leader lp.pc ∙ leads)))
           on
 
       -- where no code stands their first word makes the input's next state
-      first_makes : ((j : Ins) → w.source (aim s i) ≡ Known j → ⊥) → On N (suc K) s (15 + e) (Into w (aim s i) (step s) looks)
+      first_makes : ((j : Ins) → w.source (aim s i) ≡ Known j → ⊥) → Onto w bound price N (suc K) s (15 + e) (Into w (aim s i) (step s) looks)
       first_makes lacks =
           let t = aim s i in
           let j = ins Add SPARE TEMPORARY DISTANCE (pos 0) in
           leads_original w bound price N K s (Into w t (step s) looks) (Half w t (step s)) 0 (15 + e) (omega arith) (omega arith) (into_lasts w bound price t (step s) looks)
           (λ st u b.
-          let is = computes w bound price j u (half_over w t (step s) u b.0) b.1.0 refl in
+          let is = computes w j u (half_over w t (step s) u b.0) b.1.0 refl in
           let h : Half w t (step s) (step u) = subst (Half w t (step s)) (sym is) (half_spare w t (step s) u 31 (result Add j u) (u.pc + 4) refl b.0) in
           inr (half_met w bound price t (step s) (step u) h, h))
           (λ st. leads_dead w bound price N K (step s) _ lp.sourced (λ j k. lacks j (ap w.source (sym lp.pc) ∙ k)))
 
       -- from the look-ups on
-      look_on : On N (suc K) s (15 + e) (Into w (aim s i) (step s) looks)
+      look_on : Onto w bound price N (suc K) s (15 + e) (Into w (aim s i) (step s) looks)
       look_on =
           ⊎_elim
           (λ leads.
           let t = aim s i in
           leads_more w bound price N (suc K) s (Into w t (step s) looks) (10 + (5 + e)) (15 + e) (omega arith)
-          (looks_to t s (step s) TEMPORARY N (suc K) (5 + e) (x.table t leads) (x.known t leads) (last_makes leads)))
+          (looks_to w x.near bound price t s (step s) TEMPORARY N (suc K) (5 + e) (x.table t leads) (last_makes leads)))
           first_makes
           to
 
       -- from the return address on
-      link_on : On N (suc K) s (19 + e) (Into w (aim s i) s (links i s.pc ++ looks))
+      link_on : Onto w bound price N (suc K) s (19 + e) (Into w (aim s i) s (links i s.pc ++ looks))
       link_on =
           let few = links_most i s.pc in
           leads_more w bound price N (suc K) s (Into w (aim s i) s (links i s.pc ++ looks)) (cost (links i s.pc) + (15 + e)) (19 + e) (omega (arith, few))
           (links_lead i.rd (next_pc s) (aim s i) (aim s i) s N (suc K) looks (15 + e) m (omega arith) lp.is lp.sourced look_on)
 
       -- behind the comparison the signature is the target
-      called_on : On N (suc K) s (20 + e) (Before (Aims s (aim s i)) (called ++ (links i s.pc ++ looks)))
+      called_on : Onto w bound price N (suc K) s (20 + e) (Before_words w bound price (Aims s (aim s i)) (called ++ (links i s.pc ++ looks)))
       called_on =
           let t = aim s i in
           let rest = links i s.pc ++ looks in
-          leads_compare w bound price N (suc K) s 16 30 (Aims s t) rest (19 + e) (20 + e) (omega arith) (aims_last s t) (λ u b. half_over w b.0.0 s u b.0.1)
-          (λ u p b. ((b.0.0, half_moved w b.0.0 s u p b.0.1), b.1))
-          (leads_as w bound price N (suc K) s (Before (λ u. Aims s t u × (reg u 16 ≡ reg u 30)) rest) (Into w t s rest) (19 + e)
-          (λ u b. (subst (λ n. Half w n s u) (sym b.0.0.0.1.sign ∙ b.0.1 ∙ b.0.0.1) b.0.0.0.1, b.1))
-          link_on)
+          leads_compare w bound price N (suc K) s 16 30 (Aims s t) (Half w t s) rest (19 + e) (20 + e) (omega arith) (aims_last s t) (λ u b. half_over w b.0.0 s u b.0.1)
+          (λ u p b e. subst (λ n. Half w n s (moved u.regs p u)) (sym b.0.1.sign ∙ e ∙ b.1) (half_moved w b.0.0 s u p b.0.1))
+          link_on
 
       -- the target is taken by the original
-      aim_on : On N (suc K) s (22 + e) (Before (Under s) (take_target i i.rs1 ++ (called ++ (links i s.pc ++ looks))))
+      aim_on : Onto w bound price N (suc K) s (22 + e) (Before_words w bound price (Under s) (take_target i i.rs1 ++ (called ++ (links i s.pc ++ looks))))
       aim_on =
           let t = aim s i in
           let sum = (reg s i.rs1 + imm i) % 2 ^ 64 in
           let add = ins Addi TEMPORARY i.rs1 0 i.imm in
           let and = ins Andi TEMPORARY TEMPORARY 0 (neg_ℤ (pos 2)) in
           let rest = called ++ (links i s.pc ++ looks) in
-          leads_compute w bound price N (suc K) s add (Under s) (Aims s sum) (Plain and ∷ rest) (21 + e) (22 + e) (omega arith) refl (under_lasts s) (λ u b. half_over w b.0 s u b.1)
+          leads_compute w bound price _ _ N (suc K) add (Under s) (Aims s sum) (Plain and ∷ rest) (21 + e) (22 + e) (omega arith) refl (under_lasts s) (λ u b. half_over w b.0 s u b.1)
           (λ u q b. aims_set s u (result Addi add u) sum q b (addi_value u 30 i.rs1 (reg s i.rs1) sum i.imm (b.1.originals i.rs1 m1) refl))
-          (leads_compute w bound price N (suc K) s and (Aims s sum) (Aims s t) rest (20 + e) (21 + e) (omega arith) refl (aims_last s sum) (λ u b. half_over w b.0.0 s u b.0.1)
+          (leads_compute w bound price _ _ N (suc K) and (Aims s sum) (Aims s t) rest (20 + e) (21 + e) (omega arith) refl (aims_last s sum) (λ u b. half_over w b.0.0 s u b.0.1)
           (λ u q b. aims_set s u (result Andi and u) t q b.0 (andi_value u 30 sum b.1 (omega arith)))
           called_on)
 
       -- the words before it keep the original half, whatever the pair gives
-      front_on : (a : ℕ) → On N (suc K) s (31 + e) (Into w a s (leave_as w.distance [] (fall_to leader) class.JumpReg i a s.pc))
+      front_on : (a : ℕ) → Onto w bound price N (suc K) s (31 + e) (Into w a s (leave_as w.distance [] (fall_to leader) class.JumpReg i a s.pc))
       front_on a =
           let U = Under s in
           let rest2 = take_target i i.rs1 ++ (called ++ (links i s.pc ++ looks)) in
           let rest1 = guard i.rs1 ++ rest2 in
           let rest = check_distance w.distance ++ rest1 in
           let few = guard_most i.rs1 in
-          leads_map w bound price N (suc K) s _ (With w bound price (6 + (2 + (cost (guard i.rs1) + (22 + e)))) (Before U (turn_leap i a ++ rest)))
+          leads_map w bound price N (suc K) s _ (With w bound price (6 + (2 + (cost (guard i.rs1) + (22 + e)))) (Before_words w bound price U (turn_leap i a ++ rest)))
           (λ n u d. (((a, d.0.0), d.0.1), let h = d.1 in omega (arith, h, few)))
           (keeps (turn_leap i a) rest (2 + (cost (guard i.rs1) + (22 + e))) (inl refl, (inl refl, (inl refl, (refl, (inl refl, tt)))))
           (keeps (check_distance w.distance) rest1 (cost (guard i.rs1) + (22 + e)) (keep_distance is_upper false upper_pair refl refl w.distance)
           (keeps (guard i.rs1) rest2 (22 + e) (keep_guard is_upper false i.rs1)
           aim_on))) where
-            keeps : (xs rest : List Item) (few : ℕ) → Keep is_upper false xs → On N (suc K) s few (Before (Under s) rest) → On N (suc K) s (cost xs + few) (Before (Under s) (xs ++ rest))
+            keeps : (xs rest : List Item) (few : ℕ) → Keep is_upper false xs → Onto w bound price N (suc K) s few (Before_words w bound price (Under s) rest) → Onto w bound price N (suc K) s (cost xs + few) (Before_words w bound price (Under s) (xs ++ rest))
             keeps xs rest few k on = leads_keep w bound price is_upper false (Under s) (under_keeps s) (under_lasts s) N (suc K) s rest few on xs k
 
   -- a JALR: the last word makes the input's next state, or the first look-up where no code is
   pub leap_leads :
-      LooksTo → (a : ℕ) (s : State) (i : Ins) (N K most e : ℕ) → a < 2 ^ 64 → Sourced w s → w.source s.pc ≡ Known i → class_of i.kind ≡ class.JumpReg
+      (a : ℕ) (s : State) (i : Ins) (N K most e : ℕ) → a < 2 ^ 64 → Sourced w s → w.source s.pc ≡ Known i → class_of i.kind ≡ class.JumpReg
       → i.rs1 ≤ LAST_ORIGINAL → i.rd ≤ LAST_ORIGINAL → (IsSteady w.reached s 1 → Goes w leader (aim s i)) → 31 + most ≤ e + bound → Next N K s most
-      → Leads w bound price N (suc K) s (With w bound price (31 + e) (Into w a s (leave_as w.distance [] (fall_to leader) class.JumpReg i a s.pc)))
-  leap_leads looks_to a s i N K most e low so has c m1 m to le on =
-      leads_steady w bound price N K s _ (λ st. front_on looks_to s i N K most e m1 m le (leap_step w s i so has c (calm_step w bound price s st)) (to st) on a)
+      → Onto w bound price N (suc K) s (31 + e) (Into w a s (leave_as w.distance [] (fall_to leader) class.JumpReg i a s.pc))
+  leap_leads a s i N K most e low so has c m1 m to le on =
+      leads_steady w bound price N K s _ (λ st. front_on s i N K most e m1 m le (leap_step w s i so has c (steady_calm w.reached s st)) (to st) on a)

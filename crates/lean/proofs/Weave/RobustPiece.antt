@@ -1,86 +1,55 @@
 -- A piece under changes: before it the original half has the input's values, and behind it those behind its instructions.
-use Rattle.std.proofs.Common.{◌≡◌, ℕ, zero, suc, ◌+◌, ◌*◌, ◌%◌, ◌^◌, ◌<◌, ◌≤◌, ◌⊎◌, inl, inr, ⊎_elim, Bool, true, false, cond, not, List, [], ◌∷◌, ◌++◌, length, is_some, refl, sym, ap, ◌∙◌, subst, arith, append_assoc, length-append}
+use Rattle.std.proofs.Common.{◌≡◌, ℕ, zero, suc, ◌+◌, ◌*◌, ◌%◌, ◌^◌, ◌<◌, ◌≤◌, ◌⊎◌, inl, inr, ⊎_elim, Bool, true, false, cond, List, [], ◌∷◌, ◌++◌, length, is_some, refl, sym, ap, ◌∙◌, subst, arith, append_assoc, length-append}
 use Rattle.std.specs.Prelude.{◌==◌, ◌-◌, pos, nat_lt, slice_index}
-use Rattle.std.proofs.lemmas.Bool.{and_from, cases_eq, cases_lt, false≢true, le-leb, ne_eqb, or_right}
+use Rattle.std.proofs.lemmas.Bool.{false≢true, false_from_ne_true}
 use Rattle.rv_isa.specs.declared.class.Class.TheVariants as class
 use Rattle.machine.specs.declared.outcome.Cause.TheVariants as cause
 use Rattle.machine.specs.Table.{ins, Ins, Auipc, Beq, Add, Sub}
 use Rattle.machine.specs.Operands.{is_auipc}
-use Rattle.qed_model.specs.Promise.Kept.{is_trapped, NotTrapped, IsSteady, LeadsToReached}
+use Rattle.qed_model.specs.Promise.Kept.{is_trapped, NotTrapped, IsSteady}
 use Rattle.qed_model.specs.Weave.Forms.{mirror_of}
 use Rattle.qed_model.specs.Weave.Lean.{is_break, cost, guard_value, mirrored_store}
 use Rattle.qed_model.specs.Weave.LeanCode.{is_store, store_part, both_parts, parts_with, piece}
 use Rattle.qed_model.specs.Weave.Sequences.{Reads, original, original_as, guard, fired_check, pair, each_part, LAST_ORIGINAL, DISTANCE, TEMPORARY, SPARE}
 use Rattle.weave_core.specs.Blocks.{IsLowAs, FitsPiece, AllFit}
 use Rattle.weave_core.specs.Rows.{Sourced}
-use Rattle.weave_core.specs.World.{World, Item, Plain, Constant, Going, get, byte_at, byte_of, offset, grants, number, put, width_of, loaded, wrap, State, reg, set_reg, moved, stored, trapped, imm, place, result, next_pc, execute, holds, Known, next, step, run, target, Class, class_of, HasAt}
+use Rattle.weave_core.specs.World.{World, Item, Plain, Constant, get, byte_at, byte_of, offset, grants, number, put, width_of, loaded, wrap, State, reg, set_reg, moved, stored, trapped, imm, place, result, next_pc, execute, Known, next, step, run, target, Class, class_of, HasAt}
 use Rattle.lean.specs.Strayed.{IsOver}
 use Rattle.lean.proofs.Weave.Chain.{cost_append, no_break}
 use Rattle.lean.proofs.Weave.Costs.{guard_most}
-use Rattle.lean.proofs.Weave.Carry.{Keep, keep_append, keep_guard, keep_mirror, one_run, run-none, slice_index-set_reg_other, slice_index-set_reg_same, step-class, step-break, Over, known_at, run-more, auipc_is, IsBodyWord, body_computes, body_loads, body_stores, body_fences, body_word, pc_four, Standing, standing_step, step-compute, step-load, step-store, get-put_outside, byte_at-put_outside, same_number, byte_after, grants-weaker, some-flags, untouched, allows-flags, auipc_step, result_alike, step-fence, load_granted, store_granted, mapped_in, raised_place, spared, source_run, width_le, add_result, sub_result, branch_taken, branch_passed, equal_holds, has_front, has_rest}
-use Rattle.lean.proofs.Weave.Half.{is_spare, but, Half, Into, Holding, IntoHolding, half_over, half_spare, half_moved, half_original, holding_keeps}
-use Rattle.lean.proofs.Weave.Robust.{Leads, With, Lasts, Either, leads_map, leads_either, leads_keep, half_lasts, into_lasts, half_leads, leads_word, leads_original, leads_none, leads_more, half_met, Before_words, words_last, leads_compute, Begun, begun_lasts, begins, ends_begun}
+use Rattle.lean.proofs.Weave.Carry.{Keep, keep_append, keep_guard, keep_mirror, one_run, slice_index-set_reg_other, slice_index-set_reg_same, step-class, Over, known_at, run-more, auipc_is, IsBodyWord, body_computes, body_loads, body_stores, body_fences, body_word, pc_four, Standing, standing_step, step-compute, step-load, step-store, get-put_outside, byte_at-put_outside, same_number, byte_after, grants-weaker, some-flags, untouched, allows-flags, auipc_step, result_alike, step-fence, load_granted, store_granted, mapped_in, raised_place, spared, source_run, width_le, add_result, sub_result, has_front, has_rest}
+use Rattle.lean.proofs.Weave.Half.{is_spare, but, Half, Into, Holding, IntoHolding, half_over, half_spare, half_moved, half_original, holding_keeps, spare_pair}
+use Rattle.lean.proofs.Weave.Robust.{With, Lasts, leads_keep, half_lasts, into_lasts, half_leads, leads_word, leads_original, leads_none, leads_more, half_met, words_last, leads_compute, Begun, begun_lasts, begins, ends_begun, Onto, steady_first, steady_join, steady_calm, holding_lasts, leads_compare}
+use Rattle.weave_core.proofs.Lemmas.{steady_none}
 
 -- no store
 abbrev Bare : Ins → Type 0
 Bare i = class_of i.kind ≡ class.Store → ⊥
 
--- pairs are spare
-pub spare_pair : (r : ℕ) → is_spare (pair r) ≡ true
-spare_pair zero = refl
-spare_pair (suc r) = or_right (suc r + 16 == 0) _ (and_from _ _ (le-leb 15 (suc r + 16) (omega arith)) (ap not (ne_eqb (suc r + 16) 16 (λ e. absurd (omega (arith, e))))))
-
--- ---- the input's steps
 -- run by one step
-pub run-step : (s : State) (n : ℕ) → run s (suc n) ≡ run (step s) n
+run-step : (s : State) (n : ℕ) → run s (suc n) ≡ run (step s) n
 unfolding run
 run-step s n = refl
 
--- no step is steady
-pub steady_none : (reached : ℕ → Bool) (s : State) → s.outcome ≡ Going → IsSteady reached s 0
-steady_none reached s g = record { no_trap = ap (λ z. is_trapped z.outcome) (run-none s) ∙ ap is_trapped g; leads = λ k h. absurd (omega (arith, h)) }
-
--- n steady steps, and then m
-pub steady_join : (reached : ℕ → Bool) (s : State) (n m : ℕ) → IsSteady reached s n → IsSteady reached (run s n) m → IsSteady reached s (n + m)
-steady_join reached s n m a b = record {
-  no_trap = subst NotTrapped (sym (run-more s n m)) b.no_trap;
-  leads = λ k h.
-      ⊎_elim
-      (λ few. a.leads k few)
-      (λ ge.
-      let e : n + (k - n) ≡ k = omega (arith, ge) in
-      subst (LeadsToReached reached) (sym (run-more s n (k - n)) ∙ ap (run s) e) (b.leads (k - n) (omega (arith, h, ge))))
-      (cases_lt k n);
-}
-
--- one, and then n
-pub steady_first : (reached : ℕ → Bool) (s : State) (n : ℕ) → IsSteady reached s 1 → IsSteady reached (step s) n → IsSteady reached s (suc n)
-steady_first reached s n a b =
-    let one : 1 + n ≡ suc n = omega arith in
-    subst (IsSteady reached s) one (steady_join reached s 1 n a (subst (λ z. IsSteady reached z n) (sym (one_run s)) b))
-
--- it does not trap
-pub steady_calm : (reached : ℕ → Bool) (s : State) → IsSteady reached s 1 → NotTrapped (step s)
-steady_calm reached s st = subst NotTrapped (one_run s) st.no_trap
-
-module _ (w : World) (near : w.form.far ≡ false) where
-  pub to_far : (a : ℕ) (xs : List Item) → Reads false w.code w.entry a xs → Reads w.form.far w.code w.entry a xs
-  to_far a xs r = subst (λ b. Reads b w.code w.entry a xs) (sym near) r
-
-  pub to_near : (a : ℕ) (xs : List Item) → Reads w.form.far w.code w.entry a xs → Reads false w.code w.entry a xs
-  to_near a xs r = subst (λ b. Reads b w.code w.entry a xs) near r
-
 -- ---- the words of one instruction
 module _ (w : World) where
-  module _ (x : ℕ) (i : Ins) (u s : State) (rest : List Item) (fit : FitsPiece i) (a : Half w x s u) (has : w.source s.pc ≡ Known i) (calm : NotTrapped (step s)) where
-    going : s.outcome ≡ Going
-    going = a.sourced.over.going
+  -- behind the first of some instructions
+  record Next (s : State) (is : List Ins) : Type 0 where
+    pub sourced : Sourced w (step s)
+    pub pc : (step s).pc ≡ s.pc + 4
+    pub has : HasAt w.source (step s).pc is
 
+  next_of : (s : State) (i : Ins) (is : List Ins) → FitsPiece i → Sourced w s → HasAt w.source s.pc (i ∷ is) → NotTrapped (step s) → Next s is
+  next_of s i is fit so h calm =
+      let p = source_run w (i ∷ []) 1 s (omega arith) (fit, tt) so (h.0, tt) (subst NotTrapped (sym (one_run s)) calm) in
+      let there : (step s).pc ≡ s.pc + 4 = ap (λ y. y.pc) (sym (one_run s)) ∙ p.pc ∙ four s.pc in
+      record { sourced = subst (Sourced w) (one_run s) p.sourced; pc = there; has = subst (λ a. HasAt w.source a is) (sym there) h.1 } where
+        four : (n : ℕ) → n + 4 * 1 ≡ n + 4
+        four n = omega arith
+
+  module _ (x : ℕ) (i : Ins) (u s : State) (rest : List Item) (fit : FitsPiece i) (a : Half w x s u) (has : w.source s.pc ≡ Known i) (calm : NotTrapped (step s)) where
     known : next s ≡ Known i
     known = known_at w.source s i a.sourced.over has
-
-    behind : Sourced w (step s)
-    behind = let p = source_run w (i ∷ []) 1 s (omega arith) (fit, tt) a.sourced (has, tt) (subst NotTrapped (sym (one_run s)) calm) in subst (Sourced w) (one_run s) p.sourced
 
     abbrev Done : Type 0
     Done = Into w x (step s) rest (step u)
@@ -89,38 +58,36 @@ module _ (w : World) where
     over = half_over w x s u a
 
     -- an original register set in both
-    sets : (v p : ℕ) → i.rd ≤ LAST_ORIGINAL → step s ≡ moved (set_reg i.rd v s.regs) (next_pc s) s → Half w x (step s) (moved (set_reg i.rd v u.regs) p u)
-    sets v p h e = subst (λ t. Half w x t (moved (set_reg i.rd v u.regs) p u)) (sym e) (half_original w x s u i.rd v p (next_pc s) h a (subst (Sourced w) e behind))
+    sets : (r v p : ℕ) → r ≤ LAST_ORIGINAL → step s ≡ moved (set_reg r v s.regs) (next_pc s) s → Half w x (step s) (moved (set_reg r v u.regs) p u)
+    sets r v p h e = subst (λ t. Half w x t (moved (set_reg r v u.regs) p u)) (sym e) (half_original w x s u r v p (next_pc s) h a (subst (Sourced w) e (next_of s i [] fit a.sourced (has, tt) calm).sourced))
 
     -- by one step
-    by_step : (v : ℕ) → step u ≡ moved (set_reg i.rd v u.regs) (next_pc u) u → i.rd ≤ LAST_ORIGINAL → step s ≡ moved (set_reg i.rd v s.regs) (next_pc s) s → Reads false w.code w.entry u.pc (Plain i ∷ rest) → Done
-    by_step v eu h es r =
-        let e : step u ≡ moved (set_reg i.rd v u.regs) (u.pc + 4) u = eu ∙ ap (λ p. moved (set_reg i.rd v u.regs) p u) (pc_four w u i r.0) in
-        subst (Into w x (step s) rest) (sym e) (sets v (u.pc + 4) h es, r.1)
+    by_step :
+        (r v : ℕ) → step u ≡ moved (set_reg r v u.regs) (next_pc u) u → r ≤ LAST_ORIGINAL → step s ≡ moved (set_reg r v s.regs) (next_pc s) s → Reads false w.code w.entry u.pc (Plain i ∷ rest)
+        → Done
+    by_step r v eu h es reads =
+        let e : step u ≡ moved (set_reg r v u.regs) (u.pc + 4) u = eu ∙ ap (λ p. moved (set_reg r v u.regs) p u) (pc_four w u i reads.0) in
+        subst (Into w x (step s) rest) (sym e) (sets r v (u.pc + 4) h es, reads.1)
 
     computes : class_of i.kind ≡ class.Compute → is_auipc i.kind ≡ false → Reads false w.code w.entry u.pc (Plain i ∷ rest) → Done
     computes k other r =
         let l : IsLowAs class.Compute i = subst (λ c. IsLowAs c i) k fit.low in
         let same = result_alike i.kind i i u s other refl (a.originals i.rs1 l.1) (a.originals i.rs2 l.2) in
-        by_step (result i.kind i s) (step-compute u i a.going (known_at w.code u i over r.0) k ∙ ap (λ v. moved (set_reg i.rd v u.regs) (next_pc u) u) same) l.0 (step-compute s i going known k) r
+        by_step i.rd (result i.kind i s) (step-compute u i a.going (known_at w.code u i over r.0) k ∙ ap (λ v. moved (set_reg i.rd v u.regs) (next_pc u) u) same) l.0 (step-compute s i a.sourced.over.going known k) r
 
     fences : class_of i.kind ≡ class.Fence → Reads false w.code w.entry u.pc (Plain i ∷ rest) → Done
-    fences k r =
-        let e : step u ≡ moved u.regs (u.pc + 4) u = step-fence w u i a.going (known_at w.code u i over r.0) k ∙ ap (λ p. moved u.regs p u) (pc_four w u i r.0) in
-        let es = step-fence w s i going known k in
-        let there : Half w x (moved (set_reg 0 0 s.regs) (next_pc s) s) (moved (set_reg 0 0 u.regs) (u.pc + 4) u) = half_original w x s u 0 0 (u.pc + 4) (next_pc s) (omega arith) a (subst (Sourced w) es behind) in
-        subst (Into w x (step s) rest) (sym e) (subst (λ t. Half w x t (moved u.regs (u.pc + 4) u)) (sym es) there, r.1)
+    fences k r = by_step 0 0 (step-fence w u i a.going (known_at w.code u i over r.0) k) (omega arith) (step-fence w s i a.sourced.over.going known k) r
 
     loads : class_of i.kind ≡ class.Load → Reads false w.code w.entry u.pc (Plain i ∷ rest) → Done
     loads k r =
         let l : IsLowAs class.Load i = subst (λ c. IsLowAs c i) k fit.low in
-        let g = load_granted s i going known k calm in
+        let g = load_granted s i a.sourced.over.going known k calm in
         let n = width_of i.kind in
         let at : place i u ≡ place i s = ap (λ z. (z + imm i) % 2 ^ 64) (a.originals i.rs1 l.1) in
         let ok0 : grants (λ f. f.read) u.memory (place i s) n ≡ true = grants-weaker (λ f. f.read) s.memory u.memory (place i s) n (λ q e. allows-flags _ (get u.memory q) (get w.output q) (a.standing.flagged.flags q) ∙ w.layout.reads q (sym (allows-flags _ (get s.memory q) (get w.input q) (a.sourced.flagged.flags q)) ∙ e)) g in
         let ok : grants (λ f. f.read) u.memory (place i u) n ≡ true = rw at ok0 in
         let same : number u.memory (place i u) n ≡ number s.memory (place i s) n = ap (λ z. number u.memory z n) at ∙ same_number u.memory s.memory (place i s) n (λ j h. a.bytes (wrap (place i s + j)) (mapped_in w (λ f. f.read) s (place i s) n j a.sourced.flagged g h)) in
-        by_step (loaded i.kind (number s.memory (place i s) n)) (step-load u i a.going (known_at w.code u i over r.0) k ok ∙ ap (λ z. moved (set_reg i.rd (loaded i.kind z) u.regs) (next_pc u) u) same) l.0 (step-load s i going known k g) r
+        by_step i.rd (loaded i.kind (number s.memory (place i s) n)) (step-load u i a.going (known_at w.code u i over r.0) k ok ∙ ap (λ z. moved (set_reg i.rd (loaded i.kind z) u.regs) (next_pc u) u) same) l.0 (step-load s i a.sourced.over.going known k g) r
 
   -- a store
   module _ (x : ℕ) (i : Ins) (s : State) (rest : List Item) (fit : FitsPiece i) (so : Sourced w s) (has : w.source s.pc ≡ Known i) (calm : NotTrapped (step s)) (k : class_of i.kind ≡ class.Store) where
@@ -145,9 +112,6 @@ module _ (w : World) where
     step_is : step s ≡ stored (put s.memory at width value) (next_pc s) s
     step_is = step-store s i so.over.going known_s k granted
 
-    next_sourced : Sourced w (step s)
-    next_sourced = let p = source_run w (i ∷ []) 1 s (omega arith) (fit, tt) so (has, tt) (subst NotTrapped (sym (one_run s)) calm) in subst (Sourced w) (one_run s) p.sourced
-
     -- the original one
     stores : (u : State) → Half w x s u → Reads false w.code w.entry u.pc (Plain i ∷ mirrored_store i ∷ rest) → (step u ≡ stored (put u.memory at width value) (u.pc + 4) u) × Into w x (step s) (mirrored_store i ∷ rest) (step u)
     stores u a r = (is, (half, subst (λ p. Reads false w.code w.entry p (mirrored_store i ∷ rest)) (sym (ap (λ y. y.pc) is)) r.1)) where
@@ -163,16 +127,13 @@ module _ (w : World) where
           ∙ ap (λ v. stored (put u.memory at width v) (next_pc u) u) (a.originals i.rs2 low.2) ∙ ap (λ p. stored (put u.memory at width value) p u) (pc_four w u i r.0)
 
       unmapped : (q : ℕ) → w.base + 2 * w.distance ≤ q → is_some (get w.input q) ≡ false
-      unmapped q h = by (is_some (get w.input q)) refl where
-        by : (b : Bool) → is_some (get w.input q) ≡ b → b ≡ false
-        by true e = absurd (let z = w.layout.high q e in omega (arith, z, h))
-        by false e = refl
+      unmapped q h = false_from_ne_true _ (λ e. let z = w.layout.high q e in omega (arith, z, h))
 
       half : Half w x (step s) (step u)
       half = subst (Half w x (step s)) (sym is) (record {
         going = a.going;
         standing = subst (Standing w.code w.output) is (standing_step w.code w.output w.output_fixed u a.standing);
-        sourced = next_sourced;
+        sourced = (next_of s i [] fit so (has, tt) calm).sourced;
         sign = a.sign;
         distance = a.distance;
         originals = λ q l. a.originals q l ∙ sym (ap (λ y. reg y q) step_is);
@@ -218,20 +179,6 @@ module _ (w : World) where
   abbrev AllBare : List Ins → Type 0
   AllBare [] = Unit {0}
   AllBare (i ∷ is) = Bare i × AllBare is
-
-  -- behind the first of some instructions
-  record Next (s : State) (is : List Ins) : Type 0 where
-    pub sourced : Sourced w (step s)
-    pub pc : (step s).pc ≡ s.pc + 4
-    pub has : HasAt w.source (step s).pc is
-
-  next_of : (s : State) (i : Ins) (is : List Ins) → FitsPiece i → Sourced w s → HasAt w.source s.pc (i ∷ is) → NotTrapped (step s) → Next s is
-  next_of s i is fit so h calm =
-      let p = source_run w (i ∷ []) 1 s (omega arith) (fit, tt) so (h.0, tt) (subst NotTrapped (sym (one_run s)) calm) in
-      let there : (step s).pc ≡ s.pc + 4 = ap (λ y. y.pc) (sym (one_run s)) ∙ p.pc ∙ four s.pc in
-      record { sourced = subst (Sourced w) (one_run s) p.sourced; pc = there; has = subst (λ a. HasAt w.source a is) (sym there) h.1 } where
-        four : (n : ℕ) → n + 4 * 1 ≡ n + 4
-        four n = omega arith
 
   -- their mirror parts
   mirrors_keep : (other : Bool) (is : List Ins) (p : ℕ) → AllFit is → AllBare is → Keep is_spare false (each_part (mirror_of other) is p)
@@ -284,79 +231,34 @@ store_cost i k = let e = cost_append (guard_value i) (Plain i ∷ mirrored_store
   two = ap (λ b. cond {A = ℕ} b 0 1 + (cond {A = ℕ} b 0 1 + 0)) (no_break i.kind class.Store k (λ e. absurd (cc)))
 
 module _ (w : World) (bound price : ℕ) where
-  -- with so many steps left, each state with a property is robust
-  abbrev pub Ready : ℕ → ℕ → State → ℕ → (State → Type 0) → Type 0
-  Ready N K s most P = Leads w bound price N K s (With w bound price most P)
-
   -- what follows one instruction, and n of them, with so many steps left
   abbrev pub Onward : ℕ → ℕ → ℕ → State → (State → Type 0) → Type 0
-  Onward N K most s Q = (K' : ℕ) → suc K' ≤ K → IsSteady w.reached s 1 → Ready N K' (step s) most Q
+  Onward N K most s Q = (K' : ℕ) → suc K' ≤ K → IsSteady w.reached s 1 → Onto w bound price N K' (step s) most Q
 
   abbrev pub Follows : ℕ → ℕ → ℕ → ℕ → ℕ → State → List Item → Type 0
-  Follows x N K n most s rest = (K' : ℕ) → K' + n ≤ K → IsSteady w.reached s n → Ready N K' (run s n) most (Into w x (run s n) rest)
+  Follows x N K n most s rest = (K' : ℕ) → K' + n ≤ K → IsSteady w.reached s n → Onto w bound price N K' (run s n) most (Into w x (run s n) rest)
 
   -- ---- words
   -- a word that makes the input's next state, for any K
   pub makes :
       (x N K : ℕ) (s : State) (P Q : State → Type 0) (few many : ℕ) → 1 ≤ many → suc few ≤ many + bound → Lasts w bound price P → ((u : State) → Q u → Half w x (step s) u)
-      → (IsSteady w.reached s 1 → (u : State) → P u → Q (step u)) → Onward N K few s Q → Ready N K s many P
+      → (IsSteady w.reached s 1 → (u : State) → P u → Q (step u)) → Onward N K few s Q → Onto w bound price N K s many P
   makes x N zero s P Q few many some le lasts half goes on = leads_none w bound price N s (With w bound price many P)
   makes x N (suc K) s P Q few many some le lasts half goes on =
       leads_original w bound price N K s P Q few many some le lasts
       (λ st u b. let q = goes st u b in inr (half_met w bound price x (step s) (step u) (half (step u) q), q))
       (λ st. on K (omega arith) st)
 
-  -- a comparison of two registers
-  pub leads_compare :
-      (N K : ℕ) (s : State) (r q : ℕ) (P Q : State → Type 0) (rest : List Item) (few many : ℕ) → suc few ≤ many → 1 ≤ few → Lasts w bound price P → ((u : State) → P u → Over w.code u)
-      → ((u : State) (p : ℕ) → P u → reg u r ≡ reg u q → Q (moved u.regs p u))
-      → Ready N K s few (Before_words w bound price Q rest) → Ready N K s many (Before_words w bound price P (Plain (ins Beq 0 r q (pos 8)) ∷ fired_check ∷ rest))
-  unfolding holds
-  leads_compare N K s r q P Q rest few many le some lasts over equal on =
-      leads_word w bound price N K s (Before_words w bound price P words) Goes few many le (words_last w bound price P words lasts) goes
-      (leads_map w bound price N K s (With w bound price few Goes) (Either w bound price (With w bound price few (Before_words w bound price Q rest)) (With w bound price few Fires))
-      (λ m u d. ⊎_elim (λ a. inl (a, d.1)) (λ b. inr (b, d.1)) d.0)
-      (leads_either w bound price N K s (With w bound price few (Before_words w bound price Q rest)) (With w bound price few Fires) on fires)) where
-        words : List Item
-        words = Plain (ins Beq 0 r q (pos 8)) ∷ fired_check ∷ rest
-
-        Fires : State → Type 0
-        Fires = Before_words w bound price (Over w.code) (fired_check ∷ [])
-
-        Goes : State → Type 0
-        Goes u = Before_words w bound price Q rest u ⊎ Fires u
-
-        fires : Ready N K s few Fires
-        fires =
-            leads_word w bound price N K s Fires (λ u. ⊥) 0 few (omega (arith, some))
-            (words_last w bound price (Over w.code) (fired_check ∷ []) (λ u v o d. record { going = d.going; code = λ p. d.code p ∙ o.code p }))
-            (λ u b. inl (inl (step-break u b.0.going (b.0.code u.pc ∙ b.1.0)))) (λ n k m u n_le k_le st d. absurd d.0)
-
-        goes : (u : State) → Before_words w bound price P words u → IsOver (step u).outcome ⊎ Goes (step u)
-        goes u b =
-            let i = ins Beq 0 r q (pos 8) in
-            let o = over u b.0 in
-            let low = w.low u.pc i b.1.0 in
-            let grain = w.grain u.pc i b.1.0 in
-            ⊎_elim
-            (λ e.
-            let t = branch_taken w u i (u.pc + 4 + 4) o b.1.0 refl (equal_holds (reg u r) (reg u q) e) (omega (arith, low)) (omega (arith, grain)) in
-            inr (inl (subst (Before_words w bound price Q rest) (sym t.ends ∙ one_run u) (equal u (u.pc + 4 + 4) b.0 e, b.1.1.1))))
-            (λ ne.
-            let t = branch_passed w u i o b.1.0 refl (ne_eqb (reg u r) (reg u q) ne) in
-            inr (inr (subst Fires (sym t.ends ∙ one_run u) (record { going = o.going; code = o.code }, (b.1.1.0, tt)))))
-            (cases_eq (reg u r) (reg u q))
-
   -- ---- the original part of an instruction without a store
   module _
       (x : ℕ) (i : Ins) (s : State) (rest : List Item) (N K few extra : ℕ) (le : few ≤ extra + bound) (fit : FitsPiece i) (so : Sourced w s) (has : w.source s.pc ≡ Known i)
       (on : Onward N K few s (Into w x (step s) rest)) where
-    auipc : i.kind ≡ Auipc → i.rd ≤ LAST_ORIGINAL → Ready N K s (2 + extra) (Into w x s (Constant i.rd (target i s.pc) ∷ rest))
+    auipc : i.kind ≡ Auipc → i.rd ≤ LAST_ORIGINAL → Onto w bound price N K s (2 + extra) (Into w x s (Constant i.rd (target i s.pc) ∷ rest))
     auipc k h =
-        leads_word w bound price N K s (Into w x s (Constant i.rd v ∷ rest)) Middle (1 + extra) (2 + extra) (omega arith) (into_lasts w bound price x s (Constant i.rd v ∷ rest))
+        leads_word w bound price _ _ N K (Into w x s (Constant i.rd v ∷ rest)) Middle (1 + extra) (2 + extra) (omega arith) (into_lasts w bound price x s (Constant i.rd v ∷ rest))
         (λ u b.
         inr (begins w bound price i.rd v rest (Half w x (step s)) u (half_over w x s u b.0) b.0.standing.flagged.regs (omega (arith, h)) b.1
-        (λ p. sets w x i u s rest fit b.0 has calm v p h is)))
+        (λ p. sets w x i u s rest fit b.0 has calm i.rd v p h is)))
         (makes x N K s Middle (Into w x (step s) rest) few (1 + extra) (omega arith) (omega (arith, le))
         (begun_lasts w bound price i.rd v rest (Half w x (step s)) (inl (omega (arith, h))) (half_lasts w bound price x (step s)))
         (λ u q. q.0)
@@ -376,26 +278,26 @@ module _ (w : World) (bound price : ℕ) where
     -- an instruction that is its own original part
     word :
         (k : Class) → class_of i.kind ≡ k → (k ≡ class.Break → ⊥) → (IsSteady w.reached s 1 → (u : State) → Into w x s (Plain i ∷ rest) u → Into w x (step s) rest (step u))
-        → Ready N K s (cost (Plain i ∷ []) + extra) (Into w x s (Plain i ∷ rest))
+        → Onto w bound price N K s (cost (Plain i ∷ []) + extra) (Into w x s (Plain i ∷ rest))
     word k e ne goes =
         let one : 1 ≡ cost (Plain i ∷ []) = ap (λ b. cond {A = ℕ} b 0 1 + 0) (sym (no_break i.kind k e ne)) in
-        subst (λ n. Ready N K s (n + extra) (Into w x s (Plain i ∷ rest))) one
+        subst (λ n. Onto w bound price N K s (n + extra) (Into w x s (Plain i ∷ rest))) one
         (makes x N K s (Into w x s (Plain i ∷ rest)) (Into w x (step s) rest) few (1 + extra) (omega arith) (omega (arith, le)) (into_lasts w bound price x s (Plain i ∷ rest))
         (λ u q. q.0) goes on)
 
     -- behind its guard
-    guarded : class_of i.kind ≡ class.Load → Ready N K s (cost (guard i.rs1 ++ (Plain i ∷ [])) + extra) (Into w x s ((guard i.rs1 ++ (Plain i ∷ [])) ++ rest))
+    guarded : class_of i.kind ≡ class.Load → Onto w bound price N K s (cost (guard i.rs1 ++ (Plain i ∷ [])) + extra) (Into w x s ((guard i.rs1 ++ (Plain i ∷ [])) ++ rest))
     guarded k =
         let sum = cost_append (guard i.rs1) (Plain i ∷ []) in
         let sums : cost (guard i.rs1) + (cost (Plain i ∷ []) + extra) ≡ cost (guard i.rs1 ++ (Plain i ∷ [])) + extra = omega (arith, sum) in
-        subst (λ l. Ready N K s (cost (guard i.rs1 ++ (Plain i ∷ [])) + extra) (Into w x s l)) (sym (append_assoc (guard i.rs1) (Plain i ∷ []) rest))
-        (subst (λ n. Ready N K s n (Into w x s (guard i.rs1 ++ Plain i ∷ rest))) sums
+        subst (λ l. Onto w bound price N K s (cost (guard i.rs1 ++ (Plain i ∷ [])) + extra) (Into w x s l)) (sym (append_assoc (guard i.rs1) (Plain i ∷ []) rest))
+        (subst (λ n. Onto w bound price N K s n (Into w x s (guard i.rs1 ++ Plain i ∷ rest))) sums
         (half_leads w bound price (guard i.rs1) (keep_guard is_spare false i.rs1) N K x s s (Plain i ∷ rest) (cost (Plain i ∷ []) + extra)
         (word class.Load k (λ e. absurd (cc)) (λ st u b. loads w x i u s rest fit b.0 has (steady_calm w.reached s st) k b.1))))
 
-    original_leads : Bare i → Ready N K s (cost (original i s.pc) + extra) (Into w x s (original i s.pc ++ rest))
+    original_leads : Bare i → Onto w bound price N K s (cost (original i s.pc) + extra) (Into w x s (original i s.pc ++ rest))
     original_leads bare = by (is_auipc i.kind) refl where
-      body : is_auipc i.kind ≡ false → IsBodyWord i → Ready N K s (cost (original_as (class_of i.kind) i s.pc) + extra) (Into w x s (original_as (class_of i.kind) i s.pc ++ rest))
+      body : is_auipc i.kind ≡ false → IsBodyWord i → Onto w bound price N K s (cost (original_as (class_of i.kind) i s.pc) + extra) (Into w x s (original_as (class_of i.kind) i s.pc ++ rest))
       body n (body_computes k) = rw k (word class.Compute k (λ e. absurd (cc)) (λ st u b. computes w x i u s rest fit b.0 has (steady_calm w.reached s st) k n b.1))
       body n (body_loads k) = rw k (guarded k)
       body n (body_stores k) = absurd (bare k)
@@ -403,7 +305,7 @@ module _ (w : World) (bound price : ℕ) where
 
       by :
           (b : Bool) → is_auipc i.kind ≡ b
-          → Ready N K s (cost (cond b (Constant i.rd (target i s.pc) ∷ []) (original_as (class_of i.kind) i s.pc)) + extra)
+          → Onto w bound price N K s (cost (cond b (Constant i.rd (target i s.pc) ∷ []) (original_as (class_of i.kind) i s.pc)) + extra)
           (Into w x s (cond b (Constant i.rd (target i s.pc) ∷ []) (original_as (class_of i.kind) i s.pc) ++ rest))
       by true e = let l : IsLowAs class.Compute i = subst (λ c. IsLowAs (class_of c) i) (auipc_is i.kind e) fit.low in auipc (auipc_is i.kind e) l.0
       by false e = body e (body_word i fit)
@@ -417,10 +319,6 @@ module _ (w : World) (bound price : ℕ) where
 
     abbrev stores_to : List Item
     stores_to = Plain i ∷ mirrored_store i ∷ rest
-
-    -- properties of x30 and x31 last, since changes leave these
-    holding_lasts : (t : State) (n : ℕ) → Lasts w bound price (Holding w x t TEMPORARY n)
-    holding_lasts t n u v b d = (half_lasts w bound price x t u v b.0 d, d.thirty ∙ b.1)
 
     abbrev Added : State → Type 0
     Added u = Half w x s u × (reg u TEMPORARY < 2 ^ 64)
@@ -438,23 +336,23 @@ module _ (w : World) (bound price : ℕ) where
     lowered_lasts u v b d = (added_lasts u v b.0 d, d.last ∙ b.1 ∙ ap back (sym d.thirty))
 
     -- both stores
-    both_stores : Ready N K s (1 + extra) (IntoHolding w x s TEMPORARY up stores_to)
+    both_stores : Onto w bound price N K s (1 + extra) (IntoHolding w x s TEMPORARY up stores_to)
     both_stores =
         makes x N K s (IntoHolding w x s TEMPORARY up stores_to) Stored (1 + few) (1 + extra) (omega arith) (omega (arith, le))
-        (words_last w bound price (Holding w x s TEMPORARY up) stores_to (holding_lasts s up)) (λ u q. q.0.0)
+        (words_last w bound price (Holding w x s TEMPORARY up) stores_to (holding_lasts w bound price x s up)) (λ u q. q.0.0)
         (λ st u b. let one = stores w x i s rest fit so has (steady_calm w.reached s st) k u b.0.0 b.1 in ((one.1.0, ap (λ y. reg y TEMPORARY) one.0 ∙ b.0.1), one.1.1))
         (λ K' h st.
-        leads_word w bound price N K' (step s) Stored (Into w x (step s) rest) few (1 + few) (omega arith)
-        (words_last w bound price (Holding w x (step s) TEMPORARY up) (mirrored_store i ∷ rest) (holding_lasts (step s) up))
+        leads_word w bound price _ _ N K' Stored (Into w x (step s) rest) few (1 + few) (omega arith)
+        (words_last w bound price (Holding w x (step s) TEMPORARY up) (mirrored_store i ∷ rest) (holding_lasts w bound price x (step s) up))
         (λ u b. mirrors w x i s rest fit so has (steady_calm w.reached s st) k (step s) u b.0.0 b.0.1 b.1)
         (on K' h st)) where
           Stored : State → Type 0
           Stored = IntoHolding w x (step s) TEMPORARY up (mirrored_store i ∷ rest)
 
     -- behind the guard of its value
-    valued : Ready N K s (cost (guard_value i) + (1 + extra)) (IntoHolding w x s TEMPORARY up (guard_value i ++ stores_to))
+    valued : Onto w bound price N K s (cost (guard_value i) + (1 + extra)) (IntoHolding w x s TEMPORARY up (guard_value i ++ stores_to))
     valued =
-        leads_keep w bound price (but TEMPORARY) false (Holding w x s TEMPORARY up) (holding_keeps w x s TEMPORARY up refl) (holding_lasts s up) N K s stores_to (1 + extra) both_stores (guard_value i)
+        leads_keep w bound price (but TEMPORARY) false (Holding w x s TEMPORARY up) (holding_keeps w x s TEMPORARY up refl) (holding_lasts w bound price x s up) N K s stores_to (1 + extra) both_stores (guard_value i)
         (by (i.rs2 == i.rs1)) where
           by : (b : Bool) → Keep (but TEMPORARY) false (cond b [] (guard i.rs2))
           by true = tt
@@ -495,13 +393,13 @@ module _ (w : World) (bound price : ℕ) where
           lift y d r h g e = omega (arith, h, g, e)
 
     -- from its first word
-    addressed : Ready N K s (3 + (cost (guard_value i) + (1 + extra))) (Into w x s (store_part i ++ rest))
+    addressed : Onto w bound price N K s (3 + (cost (guard_value i) + (1 + extra))) (Into w x s (store_part i ++ rest))
     addressed =
-        subst (λ l. Ready N K s (3 + n) (Into w x s (Plain adds ∷ Plain subs ∷ Plain (ins Beq 0 i.rs1 SPARE (pos 8)) ∷ fired_check ∷ l)))
+        subst (λ l. Onto w bound price N K s (3 + n) (Into w x s (Plain adds ∷ Plain subs ∷ Plain (ins Beq 0 i.rs1 SPARE (pos 8)) ∷ fired_check ∷ l)))
         (sym (append_assoc (guard_value i) (Plain i ∷ mirrored_store i ∷ []) rest))
-        (leads_compute w bound price N K s adds (Half w x s) Added minus (2 + n) (3 + n) (omega arith) refl (half_lasts w bound price x s) (λ u a. half_over w x s u a) sums
-        (leads_compute w bound price N K s subs Added Lowered check (1 + n) (2 + n) (omega arith) refl added_lasts (λ u a. half_over w x s u a.0) lowers
-        (leads_compare N K s i.rs1 SPARE Lowered (Holding w x s TEMPORARY up) (guard_value i ++ stores_to) n (1 + n) (omega arith) (omega arith) lowered_lasts (λ u b. half_over w x s u b.0.0)
+        (leads_compute w bound price _ _ N K adds (Half w x s) Added minus (2 + n) (3 + n) (omega arith) refl (half_lasts w bound price x s) (λ u a. half_over w x s u a) sums
+        (leads_compute w bound price _ _ N K subs Added Lowered check (1 + n) (2 + n) (omega arith) refl added_lasts (λ u a. half_over w x s u a.0) lowers
+        (leads_compare w bound price N K s i.rs1 SPARE Lowered (Holding w x s TEMPORARY up) (guard_value i ++ stores_to) n (1 + n) (omega arith) lowered_lasts (λ u b. half_over w x s u b.0.0)
         (λ u p b e. (half_moved w x s u p b.0.0, raised u b e))
         valued))) where
           n : ℕ
@@ -524,44 +422,31 @@ module _ (w : World) (bound price : ℕ) where
   -- the original part of an instruction without a store
   bare_ready :
       (x : ℕ) (i : Ins) (s : State) (rest : List Item) (N K few many : ℕ) → Enough 1 (cost (original i s.pc) + few) many → FitsPiece i → Sourced w s → w.source s.pc ≡ Known i → Bare i
-      → Onward N K few s (Into w x (step s) rest) → Ready N K s many (Into w x s (original i s.pc ++ rest))
+      → Onward N K few s (Into w x (step s) rest) → Onto w bound price N K s many (Into w x s (original i s.pc ++ rest))
   bare_ready x i s rest N K few many enough fit so has bare on =
       let n = cost (original i s.pc) in
       let two = original_few i s.pc bare in
-      ⊎_elim
-      (λ h. leads_more w bound price N K s (Into w x s (original i s.pc ++ rest)) (n + few) many h (original_leads x i s rest N K few few (omega arith) fit so has on bare))
-      (λ b.
-      let e = b.1 in
-      let h = b.2 in
-      let g = b.3 in
-      leads_more w bound price N K s (Into w x s (original i s.pc ++ rest)) (n + e) many (omega (arith, two, h)) (original_leads x i s rest N K few e (omega (arith, g)) fit so has on bare))
-      enough
+      let by : (e : ℕ) → few ≤ e + bound → n + e ≤ many → Onto w bound price N K s many (Into w x s (original i s.pc ++ rest)) =
+      λ e le h. leads_more w bound price N K s (Into w x s (original i s.pc ++ rest)) (n + e) many h (original_leads x i s rest N K few e le fit so has on bare) in
+      ⊎_elim (λ h. by few (omega arith) h) (λ b. let h = b.2 in let g = b.3 in by b.1 (omega (arith, g)) (omega (arith, two, h))) enough
 
   -- a store
   store_ready :
       (x : ℕ) (i : Ins) (s : State) (rest : List Item) (N K few many : ℕ) → Enough 1 (cost (store_part i) + few) many → FitsPiece i → Sourced w s → w.source s.pc ≡ Known i
-      → class_of i.kind ≡ class.Store → Onward N K few s (Into w x (step s) rest) → Ready N K s many (Into w x s (store_part i ++ rest))
+      → class_of i.kind ≡ class.Store → Onward N K few s (Into w x (step s) rest) → Onto w bound price N K s many (Into w x s (store_part i ++ rest))
   store_ready x i s rest N K few many enough fit so has k on =
       let n = cost (guard_value i) in
       let one = value_few i in
       let all = store_cost i k in
-      ⊎_elim
-      (λ h.
-      leads_more w bound price N K s (Into w x s (store_part i ++ rest)) (3 + (n + (1 + (1 + few)))) many (omega (arith, h, all))
-      (addressed x i s rest N K few (1 + few) (omega arith) fit so has k on))
-      (λ b.
-      let e = b.1 in
-      let h = b.2 in
-      let g = b.3 in
-      leads_more w bound price N K s (Into w x s (store_part i ++ rest)) (3 + (n + (1 + e))) many (omega (arith, one, h))
-      (addressed x i s rest N K few e (omega (arith, g, all)) fit so has k on))
-      enough
+      let by : (e : ℕ) → 1 + few ≤ e + bound → 3 + (n + (1 + e)) ≤ many → Onto w bound price N K s many (Into w x s (store_part i ++ rest)) =
+      λ e le h. leads_more w bound price N K s (Into w x s (store_part i ++ rest)) (3 + (n + (1 + e))) many h (addressed x i s rest N K few e le fit so has k on) in
+      ⊎_elim (λ h. by (1 + few) (omega arith) (omega (arith, h, all))) (λ b. let h = b.2 in let g = b.3 in by b.1 (omega (arith, g, all)) (omega (arith, one, h))) enough
 
   -- ---- several instructions without a store
   -- their original parts
   originals_ready :
       (x : ℕ) (is : List Ins) (s : State) (rest : List Item) (N K most many : ℕ) → Enough (length is) (cost (each_part original is s.pc) + most) many → AllFit is → AllBare w is → Sourced w s
-      → HasAt w.source s.pc is → Follows x N K (length is) most s rest → Ready N K s many (Into w x s (each_part original is s.pc ++ rest))
+      → HasAt w.source s.pc is → Follows x N K (length is) most s rest → Onto w bound price N K s many (Into w x s (each_part original is s.pc ++ rest))
   unfolding run
   originals_ready x [] s rest N K most many enough f b so h on =
       leads_more w bound price N K s (Into w x s rest) most many
@@ -570,23 +455,23 @@ module _ (w : World) (bound price : ℕ) where
   originals_ready x (i ∷ is) s rest N K most many enough f b so h on =
       let sum = cost_append (original i s.pc) (each_part original is (s.pc + 4)) in
       let few = cost (each_part original is (s.pc + 4)) + most in
-      subst (λ l. Ready N K s many (Into w x s l)) (sym (append_assoc (original i s.pc) (each_part original is (s.pc + 4)) rest))
+      subst (λ l. Onto w bound price N K s many (Into w x s l)) (sym (append_assoc (original i s.pc) (each_part original is (s.pc + 4)) rest))
       (bare_ready x i s (each_part original is (s.pc + 4) ++ rest) N K few many
       (enough_as (suc (length is)) 1 _ (cost (original i s.pc) + few) many (λ one. omega arith) (omega (arith, sum)) enough) f.0 so h.0 b.0
       (λ K' le st.
       let k = next_of w s i is f.0 so h (steady_calm w.reached s st) in
-      subst (λ p. Ready N K' (step s) (cost (each_part original is p) + most) (Into w x (step s) (each_part original is p ++ rest))) k.pc
+      subst (λ p. Onto w bound price N K' (step s) (cost (each_part original is p) + most) (Into w x (step s) (each_part original is p ++ rest))) k.pc
       (originals_ready x is (step s) rest N K' most (cost (each_part original is (step s).pc) + most) (inl (omega arith)) f.1 b.1 k.sourced k.has
       (λ K'' le' st'. on K'' (omega (arith, le, le')) (steady_first w.reached s (length is) st st')))))
 
   -- both parts
   both_ready :
       (other : Bool) (x : ℕ) (is : List Ins) (s : State) (rest : List Item) (N K most many : ℕ) → Enough (length is) (cost (both_parts other is s.pc) + most) many → AllFit is → AllBare w is
-      → Sourced w s → HasAt w.source s.pc is → Follows x N K (length is) most s rest → Ready N K s many (Into w x s (both_parts other is s.pc ++ rest))
+      → Sourced w s → HasAt w.source s.pc is → Follows x N K (length is) most s rest → Onto w bound price N K s many (Into w x s (both_parts other is s.pc ++ rest))
   both_ready other x is s rest N K most many enough f b so h on =
       let mirrors = each_part (mirror_of other) is s.pc in
       let sum = cost_append (each_part original is s.pc) mirrors in
-      subst (λ l. Ready N K s many (Into w x s l)) (sym (append_assoc (each_part original is s.pc) mirrors rest))
+      subst (λ l. Onto w bound price N K s many (Into w x s l)) (sym (append_assoc (each_part original is s.pc) mirrors rest))
       (originals_ready x is s (mirrors ++ rest) N K (cost mirrors + most) many
       (enough_as (length is) (length is) _ (cost (each_part original is s.pc) + (cost mirrors + most)) many (λ one. one) (omega (arith, sum)) enough) f b so h
       (λ K' le st. half_leads w bound price mirrors (mirrors_keep w other is s.pc f b) N K' x (run s (length is)) (run s (length is)) rest most (on K' le st)))
@@ -610,7 +495,7 @@ module _ (w : World) (bound price : ℕ) where
   with_ready :
       (other : Bool) (x : ℕ) (is begun : List Ins) (s : State) (rest : List Item) (N K most many : ℕ)
       → Enough (length begun + length is) (cost (parts_with other begun s.pc is) + most) many → AllFit (begun ++ is) → AllBare w begun → Sourced w s → HasAt w.source s.pc (begun ++ is)
-      → Follows x N K (length begun + length is) most s rest → Ready N K s many (Into w x s (parts_with other begun s.pc is ++ rest))
+      → Follows x N K (length begun + length is) most s rest → Onto w bound price N K s many (Into w x s (parts_with other begun s.pc is ++ rest))
   with_ready other x [] begun s rest N K most many enough f b so h on =
       let none : length begun + 0 ≡ length begun = omega arith in
       both_ready other x begun s rest N K most many (subst (λ n. Enough n (cost (both_parts other begun s.pc) + most) many) none enough)
@@ -635,7 +520,7 @@ module _ (w : World) (bound price : ℕ) where
         Again : Type 0
         Again =
             (t : State) (L : ℕ) → AllFit is → Unit {0} → Sourced w t → HasAt w.source t.pc is → Follows x N L (length {A = Ins} [] + length is) most t rest
-            → Ready N L t (cost (parts_with other [] t.pc is) + most) (Into w x t (parts_with other [] t.pc is ++ rest))
+            → Onto w bound price N L t (cost (parts_with other [] t.pc is) + most) (Into w x t (parts_with other [] t.pc is ++ rest))
 
         -- what follows a store: the steps of the first n instructions, of the store and of those behind it
         joins : (L : ℕ) → L + 1 + n ≤ K → IsSteady w.reached s n → IsSteady w.reached (run s n) 1 → Follows x N L (length {A = Ins} [] + length is) most (step (run s n)) rest
@@ -644,13 +529,13 @@ module _ (w : World) (bound price : ℕ) where
             let none : length {A = Ins} [] + length is ≡ length is = omega arith in
             let ends : run s (n + suc (length is)) ≡ run (step t) (length {A = Ins} [] + length is) =
             run-more s n (suc (length is)) ∙ run-step t (length is) ∙ ap (run (step t)) (sym none) in
-            subst (λ z. Ready N K' z most (Into w x z rest)) ends
+            subst (λ z. Onto w bound price N K' z most (Into w x z rest)) ends
             (on K' (omega (arith, le, h)) (steady_join w.reached s n (suc (length is)) st (steady_first w.reached t (length is) st1 (subst (IsSteady w.reached (step t)) none st2))))
 
         -- a store
         on_store :
             class_of i.kind ≡ class.Store → Again → Enough (n + suc (length is)) (cost front + need) many
-            → Ready N K s many (Into w x s (front ++ (store_part i ++ (behind ++ rest))))
+            → Onto w bound price N K s many (Into w x s (front ++ (store_part i ++ (behind ++ rest))))
         on_store k again enough =
             let split = split_enough begun is (cost front) need many (no_parts other begun s.pc) enough in
             let fits = fit_front w begun (i ∷ is) f in
@@ -663,7 +548,7 @@ module _ (w : World) (bound price : ℕ) where
             (λ K2 le1 st1.
             let k2 = next_of w t i is fits.1.0 p.sourced has (steady_calm w.reached t st1) in
             let there : (step t).pc ≡ s.pc + 4 * n + 4 = k2.pc ∙ ap (λ z. z + 4) p.pc in
-            subst (λ a. Ready N K2 (step t) (cost (parts_with other [] a is) + most) (Into w x (step t) (parts_with other [] a is ++ rest))) there
+            subst (λ a. Onto w bound price N K2 (step t) (cost (parts_with other [] a is) + most) (Into w x (step t) (parts_with other [] a is ++ rest))) there
             (again (step t) K2 fits.1.1 tt k2.sourced k2.has (joins K2 (omega (arith, le, le1)) st st1))))
 
         by :
@@ -671,12 +556,12 @@ module _ (w : World) (bound price : ℕ) where
             → Enough (n + suc (length is)) (cost (cond c (front ++ (store_part i ++ behind)) (parts_with other (begun ++ i ∷ []) s.pc is)) + most) many → Again
             → (Enough (length (begun ++ i ∷ []) + length is) (cost (parts_with other (begun ++ i ∷ []) s.pc is) + most) many → AllFit ((begun ++ i ∷ []) ++ is) → AllBare w (begun ++ i ∷ [])
             → Sourced w s → HasAt w.source s.pc ((begun ++ i ∷ []) ++ is) → Follows x N K (length (begun ++ i ∷ []) + length is) most s rest
-            → Ready N K s many (Into w x s (parts_with other (begun ++ i ∷ []) s.pc is ++ rest)))
-            → Ready N K s many (Into w x s (cond c (front ++ (store_part i ++ behind)) (parts_with other (begun ++ i ∷ []) s.pc is) ++ rest))
+            → Onto w bound price N K s many (Into w x s (parts_with other (begun ++ i ∷ []) s.pc is ++ rest)))
+            → Onto w bound price N K s many (Into w x s (cond c (front ++ (store_part i ++ behind)) (parts_with other (begun ++ i ∷ []) s.pc is) ++ rest))
         by true e enough again push =
             let one = cost_append front (store_part i ++ behind) in
             let two = cost_append (store_part i) behind in
-            subst (λ l. Ready N K s many (Into w x s l)) (sym (append_assoc front (store_part i ++ behind) rest ∙ ap (λ l. front ++ l) (append_assoc (store_part i) behind rest)))
+            subst (λ l. Onto w bound price N K s many (Into w x s l)) (sym (append_assoc front (store_part i ++ behind) rest ∙ ap (λ l. front ++ l) (append_assoc (store_part i) behind rest)))
             (on_store (is_store_class (class_of i.kind) e) again (enough_as _ (n + suc (length is)) _ (cost front + need) many (λ some. some) (omega (arith, one, two)) enough))
         by false e enough again push =
             let pushed = append_assoc begun (i ∷ []) is in
@@ -689,15 +574,7 @@ module _ (w : World) (bound price : ℕ) where
   -- before its first instruction five steps and `e` are enough, since the instruction gives the bound anew
   pub piece_leads :
       (other : Bool) (x : ℕ) (is : List Ins) (s : State) (rest : List Item) (N K most e : ℕ) → 1 ≤ length is → AllFit is → Sourced w s → HasAt w.source s.pc is
-      → cost (piece other is s.pc) + most ≤ e + bound → Follows x N K (length is) most s rest → Ready N K s (5 + e) (Into w x s (piece other is s.pc ++ rest))
+      → cost (piece other is s.pc) + most ≤ e + bound → Follows x N K (length is) most s rest → Onto w bound price N K s (5 + e) (Into w x s (piece other is s.pc ++ rest))
   piece_leads other x is s rest N K most e some fit so h le on =
       let none : length is ≡ length {A = Ins} [] + length is = omega arith in
       with_ready other x is [] s rest N K most (5 + e) (inr (omega (arith, some), e, omega arith, le)) fit tt so h (subst (λ n. Follows x N K n most s rest) none on)
-
-  -- any piece, also an empty one, by the steps of its words
-  pub piece_counted :
-      (other : Bool) (x : ℕ) (is : List Ins) (s : State) (rest : List Item) (N K most : ℕ) → AllFit is → Sourced w s → HasAt w.source s.pc is
-      → Follows x N K (length is) most s rest → Ready N K s (cost (piece other is s.pc) + most) (Into w x s (piece other is s.pc ++ rest))
-  piece_counted other x is s rest N K most fit so h on =
-      let none : length is ≡ length {A = Ins} [] + length is = omega arith in
-      with_ready other x is [] s rest N K most (cost (piece other is s.pc) + most) (inl (omega arith)) fit tt so h (subst (λ n. Follows x N K n most s rest) none on)

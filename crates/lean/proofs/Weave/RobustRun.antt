@@ -1,35 +1,32 @@
 -- From an entry, with changes of the duplicate half at any steps: the run comes to the input's states, or is over.
-use Rattle.std.proofs.Common.{◌≡◌, ℕ, zero, suc, ◌+◌, ◌*◌, ◌/◌, ◌^◌, ◌<◌, ◌≤◌, ◌⊎◌, inl, inr, ⊎_elim, Bool, true, false, List, [], ◌∷◌, ◌++◌, length, is_some, refl, sym, ap, ◌∙◌, subst, arith, append_assoc}
-use Rattle.std.specs.Prelude.{◌-◌}
-use Rattle.std.proofs.lemmas.Bool.{and_parts, eqb-true, cases_lt, cases_eq}
+use Rattle.std.proofs.Common.{◌≡◌, ℕ, zero, suc, ◌+◌, ◌*◌, ◌^◌, ◌<◌, ◌≤◌, ⊎_elim, Bool, true, false, List, [], ◌∷◌, ◌++◌, length, refl, sym, ap, ◌∙◌, subst, arith, append_assoc}
+use Rattle.std.proofs.lemmas.Bool.{and_parts, eqb-true, cases_eq}
 use Rattle.rv_isa.specs.declared.class.Class.TheVariants as class
 use Rattle.machine.specs.Members.{Among}
 use Rattle.machine.specs.Table.{Ins}
-use Rattle.qed_model.specs.Promise.Kept.{NotTrapped, IsSteady, LeadsToReached}
+use Rattle.qed_model.specs.Promise.Kept.{NotTrapped, IsSteady}
 use Rattle.qed_model.specs.Weave.Blocks.{begins_at}
 use Rattle.qed_model.specs.Weave.Code.{pieces_of}
-use Rattle.qed_model.specs.Weave.Lean.{leave, leave_as, leave_cost, goes, turn, cost}
-use Rattle.qed_model.specs.Weave.LeanBounds.{entry_steps}
-use Rattle.qed_model.specs.Weave.LeanCode.{Lean, fall_to, body_steps, end_at}
+use Rattle.qed_model.specs.Weave.Lean.{leave, leave_as, leave_cost, turn, cost}
+use Rattle.qed_model.specs.Weave.LeanCode.{Lean, fall_to, end_at}
 use Rattle.qed_model.specs.Weave.Sequences.{Reads, End, Falls, Stops, Block, body_length, before_end}
 use Rattle.weave_core.specs.Blocks.{EndStands, Leaves, Full}
 use Rattle.weave_core.specs.Rows.{Sourced}
 use Rattle.weave_core.specs.Weave.{Weave}
-use Rattle.weave_core.specs.WeaveLaws.{PiecesAt, Met, stops}
-use Rattle.weave_core.specs.World.{World, Item, Program, Known, State, step, run, get, target, Class, class_of}
+use Rattle.weave_core.specs.WeaveLaws.{PiecesAt}
+use Rattle.weave_core.specs.World.{World, Item, Program, Known, State, step, run, get, Class, class_of}
 use Rattle.lean.specs.Woven.{LeanPlan, lean_weave_of}
 use Rattle.lean.proofs.Weave.Blocks.{begun, begins}
-use Rattle.lean.proofs.Weave.Carry.{known_at, run-more, run-none, one_run, aim, leap_step, not_trapped_le, source_run, steady_le, steady_rest, step-illegal}
-use Rattle.lean.proofs.Weave.Costs.{falls_cost}
+use Rattle.lean.proofs.Weave.Carry.{known_at, run-more, run-none, one_run, not_trapped_le, source_run, step-illegal}
 use Rattle.lean.proofs.Weave.Chain.{cost_append}
 use Rattle.lean.proofs.Weave.Half.{Half, Into}
 use Rattle.lean.proofs.Weave.Offset.{end_stands}
 use Rattle.lean.proofs.Weave.PieceCosts.{pieces_cost}
 use Rattle.lean.proofs.Weave.Plan.{BlockAt}
 use Rattle.lean.proofs.Weave.Promise.{block_at}
-use Rattle.lean.proofs.Weave.Robust.{Leads, With, leads_more, leads_as, leads_none, leads_steady}
-use Rattle.lean.proofs.Weave.RobustPiece.{piece_leads, steady_join}
-use Rattle.lean.proofs.Weave.RobustEnter.{EntryOf, enters_lead, entry_most, check_most, looks_to}
+use Rattle.lean.proofs.Weave.Robust.{With, leads_more, leads_as, leads_none, leads_steady, Onto, steady_join}
+use Rattle.lean.proofs.Weave.RobustPiece.{piece_leads}
+use Rattle.lean.proofs.Weave.RobustEnter.{EntryOf, enters_lead, entry_most, check_most}
 use Rattle.lean.proofs.Weave.RobustLeave.{Entered, falls_lead, jump_leads, branch_leads, leap_leads, aim_goes}
 use Rattle.lean.proofs.Weave.RobustEnd.{end_leads, end_most, Room}
 
@@ -38,11 +35,6 @@ some_word : (ps : List (List Ins)) → Full ps Falls → ((p : List Ins) × (qs 
 some_word [] f s = absurd (cc)
 some_word (p ∷ []) f s = omega (arith, f)
 some_word (p ∷ q ∷ ps) f s = omega (arith, f.0)
-
--- a block has an instruction
-some_step : (ps : List (List Ins)) (e : End) → Full ps e → ((p : List Ins) × (qs : List (List Ins)) × (ps ≡ p ∷ qs)) → 1 ≤ body_length ps + stops e
-some_step ps Falls f s = let k = some_word ps f s in omega (arith, k)
-some_step ps (Stops i) f s = omega arith
 
 module _ (f g : Program) (w : World) (l : Lean) (blocks : List Block) (p : LeanPlan f g w l blocks) (bound price : ℕ) where
   abbrev leader : ℕ → Bool
@@ -63,9 +55,6 @@ module _ (f g : Program) (w : World) (l : Lean) (blocks : List Block) (p : LeanP
   abbrev pub entry_cost : ℕ
   entry_cost = round + (31 + ends)
 
-  abbrev To : ℕ → ℕ → ℕ → State → (State → Type 0) → Type 0
-  To N K most s P = Leads w bound price N K s (With w bound price most P)
-
   module _ (enough : round + (2047 + 31) ≤ bound) (dear : round ≤ price) (top : ℕ) (paid : bound ≤ price → Room w price top) where
     -- ---- leaves
     -- what is needed before a leave
@@ -75,18 +64,18 @@ module _ (f g : Program) (w : World) (l : Lean) (blocks : List Block) (p : LeanP
 
     -- what the next entry gives
     abbrev Enters : ℕ → ℕ → State → Type 0
-    Enters N K s = To N K entry_cost s (Entered w l leader p.sound bound price s)
+    Enters N K s = Onto w bound price N K s entry_cost (Entered w l leader p.sound bound price s)
 
     stop_leads :
         (a : ℕ) (c : Class) (s : State) (i : Ins) (N K : ℕ) → a < 2 ^ 64 → class_of i.kind ≡ c → Sourced w s → w.source s.pc ≡ Known i → Leaves c w leader i s.pc
-        → (IsSteady w.reached s 1 → Enters N K (step s)) → To N (suc K) (31 + ends) s (Into w a s (leave_as w.distance (before_end w.form) (fall_to leader) c i a s.pc))
+        → (IsSteady w.reached s 1 → Enters N K (step s)) → Onto w bound price N (suc K) s (31 + ends) (Into w a s (leave_as w.distance (before_end w.form) (fall_to leader) c i a s.pc))
     stop_leads a class.End s i N K low e so has g on = leads_more w bound price N (suc K) s _ ends (31 + ends) (omega arith) (end_leads w p.sound.near bound price a a s i (fall_to leader) N (suc K) top so has e (omega (arith, enough)) paid)
     stop_leads a class.Illegal s i N K low e so has g on =
         leads_steady w bound price N K s _ (λ st. absurd (step-illegal s i so.over.going (known_at w.source s i so.over has) e (subst NotTrapped (one_run s) st.no_trap)))
     stop_leads a class.Jump s i N K low e so has g on = jump_leads w l leader p.sound bound price a s i N K entry_cost ends low so has e g.0 g.1 (omega (arith, enough)) on
     stop_leads a class.Branch s i N K low e so has g on = branch_leads w l leader p.sound bound price a s i N K entry_cost ends low so has e g.0 g.1 g.2 g.3 (omega (arith, enough)) on
     stop_leads a class.JumpReg s i N K low e so has g on =
-        leap_leads w l leader p.sound bound price (λ a s t r N K most tb entry on. looks_to w p.sound.near bound price a s t r N K most tb on) a s i N K entry_cost ends low so has e g.1 g.0
+        leap_leads w l leader p.sound bound price a s i N K entry_cost ends low so has e g.1 g.0
         (aim_goes w l leader p.sound bound price s i so has e g.2) (omega (arith, enough)) on
     stop_leads a c s i N K low e so has g on = absurd g
 
@@ -99,16 +88,16 @@ module _ (f g : Program) (w : World) (l : Lean) (blocks : List Block) (p : LeanP
 
     -- what stands behind the pieces
     abbrev Then : ℕ → ℕ → ℕ → State → ℕ → ℕ → List Item → Type 0
-    Then N K most s n x rest = (j : ℕ) → j + n ≤ K → IsSteady w.reached s n → To N j most (run s n) (Into w x (run s n) rest)
+    Then N K most s n x rest = (j : ℕ) → j + n ≤ K → IsSteady w.reached s n → Onto w bound price N j (run s n) most (Into w x (run s n) rest)
 
     pieces_lead :
         (ps : List (List Ins)) (e : End) (x : ℕ) (s : State) (rest : List Item) (N K most : ℕ) → 1 ≤ body_length ps → PiecesAt w v leader ps e s.pc → Sourced w s → 5 + ends ≤ most → cost (pieces_of v.code ps s.pc) + most ≤ ends + bound
-        → Then N K most s (body_length ps) x rest → To N K (5 + ends) s (Into w x s (pieces_of v.code ps s.pc ++ rest))
+        → Then N K most s (body_length ps) x rest → Onto w bound price N K s (5 + ends) (Into w x s (pieces_of v.code ps s.pc ++ rest))
     pieces_lead [] e x s rest N K most some h so le few on = absurd (omega (arith, some))
     pieces_lead ([] ∷ qs) e x s rest N K most some h so le few on =
         let same : s.pc ≡ s.pc + 4 * 0 = omega arith in
         let none : body_length qs ≡ 0 + body_length qs = omega arith in
-        subst (λ a. To N K (5 + ends) s (Into w x s (pieces_of v.code qs a ++ rest))) same
+        subst (λ a. Onto w bound price N K s (5 + ends) (Into w x s (pieces_of v.code qs a ++ rest))) same
         (pieces_lead qs e x s rest N K most (omega (arith, some)) (subst (λ a. PiecesAt w v leader qs e a) (sym same) h.1) so le (subst (λ a. cost (pieces_of v.code qs a) + most ≤ ends + bound) (sym same) few) (subst (λ n. Then N K most s n x rest) (sym none) on))
     pieces_lead ((i ∷ is) ∷ qs) e x s rest N K most some h so le few on =
         let q = i ∷ is in
@@ -125,17 +114,17 @@ module _ (f g : Program) (w : World) (l : Lean) (blocks : List Block) (p : LeanP
         (λ zero_m.
         let nothing : more ++ rest ≡ rest = ap (λ xs. xs ++ rest) (no_words qs (s.pc + 4 * n) zero_m) in
         let count : n + m ≡ n = omega (arith, zero_m) in
-        subst (λ xs. To N j most t (Into w x t xs)) (sym nothing) (subst (λ c. To N j most (run s c) (Into w x (run s c) rest)) count (on j (omega (arith, fits, zero_m)) (subst (IsSteady w.reached s) (sym count) st))))
+        subst (λ xs. Onto w bound price N j t most (Into w x t xs)) (sym nothing) (subst (λ c. Onto w bound price N j (run s c) most (Into w x (run s c) rest)) count (on j (omega (arith, fits, zero_m)) (subst (IsSteady w.reached s) (sym count) st))))
         (λ some_m.
         leads_more w bound price N j t (Into w x t (more ++ rest)) (5 + ends) most le
-        (subst (λ a. To N j (5 + ends) t (Into w x t (pieces_of v.code qs a ++ rest))) k.pc
+        (subst (λ a. Onto w bound price N j t (5 + ends) (Into w x t (pieces_of v.code qs a ++ rest))) k.pc
         (pieces_lead qs e x t rest N j most (omega (arith, some_m)) (subst (λ a. PiecesAt w v leader qs e a) (sym k.pc) h.1) k.sourced le (subst (λ a. cost (pieces_of v.code qs a) + most ≤ ends + bound) (sym k.pc) (omega (arith, few, sum)))
-        (λ c fits2 st2. subst (λ y. To N c most y (Into w x y rest)) (run-more s n m) (on c (omega (arith, fits, fits2)) (steady_join w.reached s n m st st2))))))
+        (λ c fits2 st2. subst (λ y. Onto w bound price N c y most (Into w x y rest)) (run-more s n m) (on c (omega (arith, fits, fits2)) (steady_join w.reached s n m st st2))))))
         (cases_eq m 0)))
 
     -- ---- a block
     -- a fact that the property has may be taken as given
-    leads_given : {C : Type 0} → (N K most : ℕ) (s : State) (P : State → Type 0) → ((u : State) → P u → C) → (C → To N K most s P) → To N K most s P
+    leads_given : {C : Type 0} → (N K most : ℕ) (s : State) (P : State → Type 0) → ((u : State) → P u → C) → (C → Onto w bound price N K s most P) → Onto w bound price N K s most P
     leads_given N K most s P get f n k m u n_le k_le st d = f (get u d.0) n k m u n_le k_le st d
 
     module _ (b : Block) (m : Among b blocks) where
@@ -171,14 +160,14 @@ module _ (f g : Program) (w : World) (l : Lean) (blocks : List Block) (p : LeanP
       -- from behind its pieces
       leave_leads :
           (e : End) (t : State) (N K : ℕ) → t.pc ≡ at_end → Sourced w t → EndStands w leader e t.pc → ((j : ℕ) (y : State) → j ≤ K → Enters N j y)
-          → To N K (before_leave e b.start t.pc) t (Into w b.start t (leave w.distance (before_end w.form) (fall_to leader) e b.start t.pc))
+          → Onto w bound price N K t (before_leave e b.start t.pc) (Into w b.start t (leave w.distance (before_end w.form) (fall_to leader) e b.start t.pc))
       leave_leads Falls t N K pc so st next = falls_lead w l leader p.sound bound price b.start t.pc t N K entry_cost here.good.low so refl st (next K t (omega arith))
       leave_leads (Stops i) t N zero pc so st next = leads_none w bound price N t (With w bound price (31 + ends) (Into w b.start t (leave w.distance (before_end w.form) (fall_to leader) (Stops i) b.start t.pc)))
       leave_leads (Stops i) t N (suc K) pc so st next = stop_leads b.start (class_of i.kind) t i N K here.good.low refl so st.0 st.1 (λ s. next K (step t) (omega arith))
 
       body_leads :
           (s : State) (N K : ℕ) → s.pc ≡ b.start → Sourced w s → ((j : ℕ) (y : State) → j ≤ K → Enters N j y)
-          → To N (suc K) (31 + ends) s (Into w b.start s (pieces_of v.code b.body b.start ++ leaves))
+          → Onto w bound price N (suc K) s (31 + ends) (Into w b.start s (pieces_of v.code b.body b.start ++ leaves))
       body_leads s N K pc so next =
           let n = body_length b.body in
           let code = pieces_of v.code b.body b.start in
@@ -188,18 +177,19 @@ module _ (f g : Program) (w : World) (l : Lean) (blocks : List Block) (p : LeanP
           (λ none.
           let nothing : code ++ leaves ≡ leaves = ap (λ xs. xs ++ leaves) (no_words b.body b.start none) in
           let there : at_end ≡ s.pc = omega (arith, none, pc) in
-          subst (λ xs. To N (suc K) (31 + ends) s (Into w b.start s xs)) (sym nothing)
-          (subst (λ z. To N (suc K) (31 + ends) s (Into w b.start s (leave w.distance (before_end w.form) (fall_to leader) b.end b.start z))) (sym there)
+          subst (λ xs. Onto w bound price N (suc K) s (31 + ends) (Into w b.start s xs)) (sym nothing)
+          (subst (λ z. Onto w bound price N (suc K) s (31 + ends) (Into w b.start s (leave w.distance (before_end w.form) (fall_to leader) b.end b.start z))) (sym there)
           (alone b.end refl s none pc so (subst (EndStands w leader b.end) there stands))))
           (λ some.
           leads_more w bound price N (suc K) s (Into w b.start s (code ++ leaves)) (5 + ends) (31 + ends) (omega arith)
-          (subst (λ z. To N (suc K) (5 + ends) s (Into w b.start s (pieces_of v.code b.body z ++ leaves))) pc
+          (subst (λ z. Onto w bound price N (suc K) s (5 + ends) (Into w b.start s (pieces_of v.code b.body z ++ leaves))) pc
           (pieces_lead b.body b.end b.start s leaves N (suc K) (before_leave b.end b.start at_end) (omega (arith, some)) pieces so (least b.end) (subst (λ z. cost (pieces_of v.code b.body z) + before_leave b.end b.start at_end ≤ ends + bound) (sym pc) (fits b.end refl))
           (λ j h st.
           let t = run s n in
-          let there : t.pc ≡ at_end = pieces_pc b.body b.end s pieces so st.no_trap ∙ ap (λ z. z + 4 * n) pc in
-          subst (λ z. To N j (before_leave b.end b.start z) t (Into w b.start t (leave w.distance (before_end w.form) (fall_to leader) b.end b.start z))) there
-          (leave_leads b.end t N j there (pieces_sourced b.body b.end s pieces so st.no_trap) (subst (EndStands w leader b.end) (sym there) stands) (λ c y le. next c y (omega (arith, le, h, some))))))))
+          let behind = pieces_run b.body b.end s pieces so st.no_trap in
+          let there : t.pc ≡ at_end = behind.1 ∙ ap (λ z. z + 4 * n) pc in
+          subst (λ z. Onto w bound price N j t (before_leave b.end b.start z) (Into w b.start t (leave w.distance (before_end w.form) (fall_to leader) b.end b.start z))) there
+          (leave_leads b.end t N j there behind.0 (subst (EndStands w leader b.end) (sym there) stands) (λ c y le. next c y (omega (arith, le, h, some))))))))
           (cases_eq (body_length b.body) 0) where
             least : (e : End) → 5 + ends ≤ before_leave e b.start at_end
             least Falls = omega arith
@@ -207,38 +197,31 @@ module _ (f g : Program) (w : World) (l : Lean) (blocks : List Block) (p : LeanP
 
             alone :
                 (e : End) → b.end ≡ e → (s : State) → body_length b.body ≡ 0 → s.pc ≡ b.start → Sourced w s → EndStands w leader e s.pc
-                → To N (suc K) (31 + ends) s (Into w b.start s (leave w.distance (before_end w.form) (fall_to leader) e b.start s.pc))
+                → Onto w bound price N (suc K) s (31 + ends) (Into w b.start s (leave w.distance (before_end w.form) (fall_to leader) e b.start s.pc))
             alone Falls is s none pc so st = absurd (let k = some_word b.body (subst (Full b.body) is here.good.full) here.good.some in omega (arith, k, none))
             alone (Stops i) is s none pc so st = stop_leads b.start (class_of i.kind) s i N K here.good.low refl so st.0 st.1 (λ z. next K (step s) (omega arith))
 
-            pieces_pc : (ps : List (List Ins)) (e : End) (s : State) → PiecesAt w v leader ps e s.pc → Sourced w s → NotTrapped (run s (body_length ps)) → (run s (body_length ps)).pc ≡ s.pc + 4 * body_length ps
-            pieces_pc [] e s h so calm = ap (λ y. y.pc) (run-none s) ∙ none s.pc where
+            pieces_run :
+                (ps : List (List Ins)) (e : End) (s : State) → PiecesAt w v leader ps e s.pc → Sourced w s → NotTrapped (run s (body_length ps))
+                → Sourced w (run s (body_length ps)) × ((run s (body_length ps)).pc ≡ s.pc + 4 * body_length ps)
+            pieces_run [] e s h so calm = (subst (Sourced w) (sym (run-none s)) so, ap (λ y. y.pc) (run-none s) ∙ none s.pc) where
               none : (n : ℕ) → n ≡ n + 4 * 0
               none n = omega arith
-            pieces_pc (q ∷ qs) e s h so calm =
+            pieces_run (q ∷ qs) e s h so calm =
                 let n = length q in
                 let m = body_length qs in
                 let k = source_run w q n s (omega arith) h.0.fit so h.0.has (not_trapped_le s n (n + m) (omega arith) calm) in
                 let more = run-more s n m in
-                let r = pieces_pc qs e (run s n) (subst (λ z. PiecesAt w v leader qs e z) (sym k.pc) h.1) k.sourced (subst NotTrapped more calm) in
-                ap (λ y. y.pc) more ∙ r ∙ ap (λ z. z + 4 * m) k.pc ∙ far s.pc n m where
+                let r = pieces_run qs e (run s n) (subst (λ z. PiecesAt w v leader qs e z) (sym k.pc) h.1) k.sourced (subst NotTrapped more calm) in
+                (subst (Sourced w) (sym more) r.0, ap (λ y. y.pc) more ∙ r.1 ∙ ap (λ z. z + 4 * m) k.pc ∙ far s.pc n m) where
                   far : (a n m : ℕ) → a + 4 * n + 4 * m ≡ a + 4 * (n + m)
                   far a n m = omega arith
-
-            pieces_sourced : (ps : List (List Ins)) (e : End) (s : State) → PiecesAt w v leader ps e s.pc → Sourced w s → NotTrapped (run s (body_length ps)) → Sourced w (run s (body_length ps))
-            pieces_sourced [] e s h so calm = subst (Sourced w) (sym (run-none s)) so
-            pieces_sourced (q ∷ qs) e s h so calm =
-                let n = length q in
-                let m = body_length qs in
-                let k = source_run w q n s (omega arith) h.0.fit so h.0.has (not_trapped_le s n (n + m) (omega arith) calm) in
-                let more = run-more s n m in
-                subst (Sourced w) (sym more) (pieces_sourced qs e (run s n) (subst (λ z. PiecesAt w v leader qs e z) (sym k.pc) h.1) k.sourced (subst NotTrapped more calm))
 
       block_leads :
           (s : State) (N K : ℕ) → s.pc ≡ b.start → Sourced w s → ((j : ℕ) (y : State) → j ≤ K → Enters N j y) → Enters N (suc K) s
       block_leads s N K pc so next =
           leads_as w bound price N (suc K) s (Entered w l leader p.sound bound price s) (EntryOf w l leader p.sound bound price b.start s) entry_cost (λ u d. (subst (λ z. Half w z s u) pc d.0, d.1 ∙ ap w.entry pc))
-          (enters_lead w l leader p.sound bound price b.start s s (pieces_of v.code b.body b.start ++ leaves) N (suc K) (31 + ends) (begins blocks b m) reads dear (body_leads s N K pc so next))
+          (enters_lead w l leader p.sound bound price b.start s s (pieces_of v.code b.body b.start ++ leaves) (suc K) (31 + ends) (begins blocks b m) reads dear N (body_leads s N K pc so next))
 
     -- ---- from any entry
     pub entered_leads : (fuel N K : ℕ) (s : State) → K ≤ fuel → Enters N K s

@@ -1,24 +1,18 @@
 -- What runs first, with changes of the duplicate half: the entry of the test with the input's first state in the original half.
-use Rattle.std.proofs.Common.{◌≡◌, ℕ, zero, suc, ◌+◌, ◌*◌, ◌%◌, ◌^◌, ◌<◌, ◌≤◌, ◌⊎◌, inl, inr, ⊎_elim, Bool, true, false, List, [], ◌∷◌, ◌++◌, length, is_some, refl, sym, ap, ◌∙◌, subst, arith}
-use Rattle.std.specs.Prelude.{◌-◌, pos, slice_index, slice_set, replicate}
+use Rattle.std.proofs.Common.{◌≡◌, ℕ, zero, suc, ◌+◌, ◌^◌, ◌<◌, ◌≤◌, ◌⊎◌, inl, inr, ⊎_elim, List, [], ◌∷◌, ◌++◌, length, refl, sym, ap, ◌∙◌, subst, arith}
+use Rattle.std.specs.Prelude.{pos, slice_index, slice_set, replicate}
 use Rattle.std.proofs.lemmas.Bool.{cases_eq}
 use Rattle.std.proofs.lemmas.List.{length-set}
 use Rattle.rv_isa.specs.declared.class.Class.TheVariants as class
 use Rattle.machine.specs.Table.{ins, Ins, Addi, Lui}
-use Rattle.qed_model.specs.Promise.Kept.{IsSteady}
 use Rattle.qed_model.specs.Weave.Lean.{begin}
-use Rattle.qed_model.specs.Weave.LeanCode.{Lean}
-use Rattle.qed_model.specs.Weave.Sequences.{Reads, zero_from, ORIGINALS, DISTANCE, CURSOR, SIGNATURE}
-use Rattle.weave_core.specs.Blocks.{IsEntryOf}
+use Rattle.qed_model.specs.Weave.Sequences.{zero_from, ORIGINALS, DISTANCE, CURSOR}
 use Rattle.weave_core.specs.Describes.{Describes}
-use Rattle.weave_core.specs.WeaveLaws.{Met}
-use Rattle.weave_core.specs.World.{World, Item, Plain, Constant, Go, Program, Going, start, zeros, AreStartRegs, State, reg, set_reg, moved, step, result, wrapped, class_of, byte_at, get, flags_at}
-use Rattle.lean.specs.Strayed.{IsOver}
-use Rattle.lean.proofs.Weave.Carry.{writes_out, writes_long, slice_index-set_reg_other, slice_index-set_reg_same, Over, over_moved, addi_value, go_walk, go_most, one_run, writes, first_sourced, length-set_reg, slice_index-set_reg_zero}
+use Rattle.weave_core.specs.World.{World, Item, Plain, Constant, Go, Program, start, zeros, AreStartRegs, State, reg, set_reg, moved, result, class_of, byte_at, get, flags_at}
+use Rattle.lean.proofs.Weave.Carry.{writes_out, writes_long, slice_index-set_reg_other, slice_index-set_reg_same, Over, over_moved, addi_value, writes, first_sourced, length-set_reg, slice_index-set_reg_zero}
 use Rattle.lean.proofs.Weave.Chain.{read_back}
-use Rattle.lean.proofs.Weave.Half.{Half, half_over, half_moved}
-use Rattle.lean.proofs.Weave.Robust.{Disturbed, set_disturbed, half_disturbed, Robust, Every, With, Lasts, Before_words, words_last, computes, Begun, begun_lasts, begins, ends_begun, IsSafe, every_word, half_met}
-use Rattle.lean.proofs.Weave.Turn.{lui_value}
+use Rattle.lean.proofs.Weave.Half.{Half}
+use Rattle.lean.proofs.Weave.Robust.{Disturbed, set_disturbed, half_disturbed, Every, With, Lasts, Before_words, IsSafe, over_disturbed, leads_compute, leads_constant, lui_small}
 
 -- a start has 0 in x0, and the input in all registers
 set_first : (xs : List ℕ) → slice_index (slice_set xs 0 0) 0 ≡ 0
@@ -62,7 +56,7 @@ module _ (w : World) (s : State) (a : ℕ) where
   module _ (bound price : ℕ) where
     pub awaits_last : (ws : List (ℕ × ℕ)) → AreRegs ws → Lasts w bound price (Awaits ws)
     awaits_last ws k u v h d = record {
-      over = record { going = d.going; code = λ p. d.code p ∙ h.over.code p };
+      over = over_disturbed w u v h.over d;
       long = d.count;
       zero_reg = d.low 0 (omega arith) ∙ h.zero_reg;
       half = λ p. half_disturbed w a s (moved (writes ws u.regs) p u) (moved (writes ws v.regs) p v) (h.half p) (writes_disturbed ws p u v k d);
@@ -80,18 +74,14 @@ module _ (w : World) (s : State) (a : ℕ) where
           (i : Ins) (v most many : ℕ) (ws : List (ℕ × ℕ)) (xs : List Item) → suc most ≤ many → class_of i.kind ≡ class.Compute → i.rd < 32 → AreRegs ws → ((u : State) → reg u 0 ≡ 0 → result i.kind i u ≡ v) → Leads_to most ws xs
           → Leads_to many ((i.rd, v) ∷ ws) (Plain i ∷ xs)
       one i v most many ws xs le c few k value rest =
-          every_word w bound price S s N K (Before_words w bound price (Awaits ((i.rd, v) ∷ ws)) (Plain i ∷ xs)) (Before_words w bound price (Awaits ws) xs) most many le (words_last w bound price (Awaits ((i.rd, v) ∷ ws)) (Plain i ∷ xs) (awaits_last ((i.rd, v) ∷ ws) (few, k)))
-          (λ u b.
-          let e = computes w bound price i u b.0.over b.1.0 c ∙ ap (λ n. moved (set_reg i.rd n u.regs) (u.pc + 4) u) (value u b.0.zero_reg) in
-          inr (subst (Before_words w bound price (Awaits ws) xs) (sym e) (awaits_set i.rd v (u.pc + 4) ws u b.0, b.1.1)))
+          leads_compute w bound price S s N K i (Awaits ((i.rd, v) ∷ ws)) (Awaits ws) xs most many le c (awaits_last ((i.rd, v) ∷ ws) (few, k)) (λ u b. b.over)
+          (λ u p b. subst (λ n. Awaits ws (moved (set_reg i.rd n u.regs) p u)) (sym (value u b.zero_reg)) (awaits_set i.rd v p ws u b))
           rest
 
       constant :
           (r v most : ℕ) (ws : List (ℕ × ℕ)) (xs : List Item) → IsSafe w bound price r → r < 32 → v < 2 ^ 64 → AreRegs ws → Leads_to most ws xs → Leads_to (2 + most) ((r, v) ∷ ws) (Constant r v ∷ xs)
       constant r v most ws xs safe few low k rest =
-          every_word w bound price S s N K (Before_words w bound price (Awaits ((r, v) ∷ ws)) (Constant r v ∷ xs)) (Begun w bound price r v xs (Awaits ws)) (1 + most) (2 + most) (omega arith) (words_last w bound price (Awaits ((r, v) ∷ ws)) (Constant r v ∷ xs) (awaits_last ((r, v) ∷ ws) (few, k)))
-          (λ u b. inr (begins w bound price r v xs (Awaits ws) u b.0.over b.0.long few b.1 (λ p. awaits_set r v p ws u b.0)))
-          (every_word w bound price S s N K (Begun w bound price r v xs (Awaits ws)) (Before_words w bound price (Awaits ws) xs) most (1 + most) (omega arith) (begun_lasts w bound price r v xs (Awaits ws) safe (awaits_last ws k)) (λ u b. inr (ends_begun w bound price r v xs (Awaits ws) u low b)) rest)
+          leads_constant w bound price S s N K r v (Awaits ((r, v) ∷ ws)) (Awaits ws) xs most (2 + most) (omega arith) safe low (awaits_last ((r, v) ∷ ws) (few, k)) (awaits_last ws k) (λ u b. (b.over, b.long)) (λ u p b. awaits_set r v p ws u b) rest
 
       are_zeros : (r n : ℕ) (ws : List (ℕ × ℕ)) → r + n ≤ 32 → AreRegs ws → AreRegs (zeros_of r n ws)
       are_zeros r zero ws h k = k
@@ -110,11 +100,9 @@ module _ (w : World) (s : State) (a : ℕ) where
           let apart : List Item = Plain (ins Lui DISTANCE 0 0 (pos w.distance)) ∷ sign in
           zero_words 1 13 (13 + (1 + (2 + (1 + most)))) (zeros_of 17 ORIGINALS (last_writes w a)) (zero_from 17 13 ++ apart) (omega arith) (are_zeros 17 13 (last_writes w a) (omega arith) (omega arith, (omega arith, (omega arith, tt))))
           (zero_words 17 13 (1 + (2 + (1 + most))) (last_writes w a) apart (omega arith) (omega arith, (omega arith, (omega arith, tt)))
-          (one (ins Lui DISTANCE 0 0 (pos w.distance)) w.distance (2 + (1 + most)) (1 + (2 + (1 + most))) ((16, a) ∷ (15, 2047) ∷ []) sign (omega arith) refl (omega arith) (omega arith, (omega arith, tt)) (λ u z. lui_value u 14 (pos w.distance) ∙ small_is w.distance small)
+          (one (ins Lui DISTANCE 0 0 (pos w.distance)) w.distance (2 + (1 + most)) (1 + (2 + (1 + most))) ((16, a) ∷ (15, 2047) ∷ []) sign (omega arith) refl (omega arith) (omega arith, (omega arith, tt)) (λ u z. lui_small u 14 w.distance small)
           (constant 16 a (1 + most) ((15, 2047) ∷ []) count (inr (inl refl)) (omega arith) low (omega arith, tt)
-          (one (ins Addi CURSOR 0 0 (pos 2047)) 2047 most (1 + most) [] (Go a ∷ []) (omega arith) refl (omega arith) tt (λ u z. addi_value u 15 0 0 2047 (pos 2047) z (omega arith)) rest)))) where
-            small_is : (n : ℕ) → n < 2 ^ 64 → n % 2 ^ 64 ≡ n
-            small_is n h = omega (arith, h)
+          (one (ins Addi CURSOR 0 0 (pos 2047)) 2047 most (1 + most) [] (Go a ∷ []) (omega arith) refl (omega arith) tt (λ u z. addi_value u 15 0 0 2047 (pos 2047) z (omega arith)) rest))))
 
 -- ---- registers behind these writes
 -- other registers stay
