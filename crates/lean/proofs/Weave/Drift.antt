@@ -14,7 +14,7 @@ use Rattle.qed_model.specs.Weave.LeanCode.{is_store, store_part, both_parts, par
 use Rattle.qed_model.specs.Weave.Sequences.{Reads, guard, guards_of, links, original, original_as, each_part, LAST_ORIGINAL, PAIR_DISTANCE, DISTANCE, CURSOR, SIGNATURE, TEMPORARY, pair}
 use Rattle.machine.specs.Operands.{is_auipc}
 use Rattle.weave_core.specs.Blocks.{IsLowAs, FitsPiece, AllFit}
-use Rattle.weave_core.specs.World.{World, Item, Plain, Constant, Going, grants, number, put, width_of, loaded, State, reg, moved, stored, trapped, imm, place, result, next_pc, execute, Known, next, step, run, target, Class, class_of, set_reg}
+use Rattle.weave_core.specs.World.{World, Item, Plain, Constant, Going, grants, number, put, width_of, loaded, State, reg, moved, stored, trapped, place, result, next_pc, execute, Known, next, step, target, Class, class_of, set_reg}
 use Rattle.lean.specs.Strayed.{IsOver}
 use Rattle.lean.proofs.Weave.Piece.{store_class}
 pub use Rattle.lean.proofs.Weave.Carry.{keeps, keeps_as, Keep, keep_append, keep_guard, keep_guards, keep_guards_of, keep_way, keep_distance, keep_mirror, size_cost, Carried, carry, carry_from, Comes, comes_none, comes_over, comes_one, comes_more, comes_behind, comes_on}

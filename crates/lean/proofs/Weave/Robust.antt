@@ -151,9 +151,9 @@ module _ (w : World) (near : w.form.far ≡ false) where
 
 module _ (w : World) (bound price : ℕ) where
   -- ---- robust states
-  -- up to n steps and changes: the run comes to k states of the input, the first of which is t, one after the other, or
-  -- it is over. It takes m steps to the first of them, `bound` more to each later one, and `price` more for each change. If
-  -- the price is below the bound, there are no changes
+  -- A game of n moves, each a step or a change. The run comes to k states of the input, one after the other, or is over. It
+  -- takes m steps to the first of them, t, and `bound` more to each later one. A change costs `price` more, and there are none
+  -- if that is below the bound
   unfoldable pub Robust : (n k : ℕ) (t : State) (m : ℕ) (u : State) → Type 0
   Robust zero k t m u = Unit {0}
   Robust (suc n) zero t m u = Unit {0}
@@ -161,7 +161,7 @@ module _ (w : World) (bound price : ℕ) where
       (IsOver (step u).outcome ⊎ ((j : ℕ) × (m ≡ suc j) × (Robust n (suc k) t j (step u) ⊎ (Met w (step u) t × Robust n k (step t) (j + bound) (step u)))))
       × ((v : State) → bound ≤ price → Disturbed w u v → Robust n (suc k) t (m + price) v)
 
-  -- each state with the property D, which is told the steps that are left, is robust; S says what is asked of k states from t on
+  -- each state with the property D is robust; D also has the steps that are left, and S what is asked of k states from t on
   abbrev pub Every : (ℕ → Type 0) → State → ℕ → ℕ → (ℕ → State → Type 0) → Type 0
   Every S t N K D = (n k m : ℕ) (u : State) → n ≤ N → k ≤ K → S k → D m u → Robust n k t m u
 
@@ -169,11 +169,11 @@ module _ (w : World) (bound price : ℕ) where
   abbrev pub Leads : ℕ → ℕ → State → (ℕ → State → Type 0) → Type 0
   Leads N K s D = Every (IsSteady w.reached s) (step s) N K D
 
-  -- at least so many steps are left
+  -- at least `most` steps are left
   abbrev pub With : ℕ → (State → Type 0) → ℕ → State → Type 0
   With most P m u = P u × (most ≤ m)
 
-  -- each state with a property and so many steps left is robust
+  -- each state with a property is robust, if `most` steps are left
   abbrev pub Onto : ℕ → ℕ → State → ℕ → (State → Type 0) → Type 0
   Onto N K s most P = Leads N K s (With most P)
 

@@ -209,7 +209,7 @@ module _ (w : World) (near : w.form.far ≡ false) where
             known_word w bound price gap small N K s (Before_words w bound price P (Plain i ∷ rest)) (Before_words w bound price Q rest) (Fifteen F) (Fifteen F) (n + few) (k + few) (omega (arith, h))
             (words_last w bound price P (Plain i ∷ rest) lasts) (λ u b. ⊎_elim (λ o. inl o) (λ g. inr (g.0, λ f. subst F (sym g.1) f)) (goes u b)) on
 
-        -- of which nothing else is asked
+        -- a word that leaves x15 alone
         kept_word : (i : Ins) (rest : List Item) (n k : ℕ) → suc k ≤ n → keeps (but 15) false i ≡ true → Has (Half w a t) rest k → Has (Half w a t) (Plain i ∷ rest) n
         kept_word i rest n k h e on =
             one_word i (Half w a t) (Half w a t) rest n k h (half_lasts w bound price a t)

@@ -231,7 +231,7 @@ store_cost i k = let e = cost_append (guard_value i) (Plain i ∷ mirrored_store
   two = ap (λ b. cond {A = ℕ} b 0 1 + (cond {A = ℕ} b 0 1 + 0)) (no_break i.kind class.Store k (λ e. absurd (cc)))
 
 module _ (w : World) (bound price : ℕ) where
-  -- what follows one instruction, and n of them, with so many steps left
+  -- what follows one instruction, and n of them, if `most` steps are left
   abbrev pub Onward : ℕ → ℕ → ℕ → State → (State → Type 0) → Type 0
   Onward N K most s Q = (K' : ℕ) → suc K' ≤ K → IsSteady w.reached s 1 → Onto w bound price N K' (step s) most Q
 

@@ -1,5 +1,5 @@
 -- A run that the duplicate half of a state is changed in, from a robust state: when it comes to each state of the input.
-use Rattle.std.proofs.Common.{◌≡◌, ℕ, zero, suc, ◌+◌, ◌*◌, ◌%◌, ◌^◌, ◌<◌, ◌≤◌, ◌⊎◌, inl, inr, ⊎_elim, Bool, true, false, cond, List, [], ◌∷◌, length, is_some, refl, sym, ap, ◌∙◌, subst, arith}
+use Rattle.std.proofs.Common.{◌≡◌, ℕ, zero, suc, ◌+◌, ◌*◌, ◌^◌, ◌<◌, ◌≤◌, ◌⊎◌, inl, inr, ⊎_elim, Bool, true, false, cond, List, [], ◌∷◌, length, refl, sym, ap, ◌∙◌, subst, arith}
 use Rattle.std.specs.Prelude.{◌==◌, ◌-◌, nat_le, slice_index}
 use Rattle.std.proofs.Math.Nat.{mul-le-mul_left, mul-le-mul_right}
 use Rattle.machine.specs.Memory.{byte_in}
@@ -14,8 +14,8 @@ use Rattle.machine.proofs.Lemmas.{same_fetch, flags-put}
 use Rattle.qed_model.specs.Promise.Kept.{is_trapped}
 use Rattle.qed_model.specs.declared.change.Change.{Change}
 use Rattle.qed_model.specs.Promise.Changed.{changed, changed_as, with_changes, changed_run}
-use Rattle.weave_core.specs.WeaveLaws.{Met, Holds}
-use Rattle.weave_core.specs.World.{World, Program, Going, Memory, get, put, allows, memory_of, flags_at, byte_at, offset, State, reg, set_reg, step, run, fetched_at}
+use Rattle.weave_core.specs.WeaveLaws.{Met}
+use Rattle.weave_core.specs.World.{World, Program, Going, Memory, get, put, allows, memory_of, byte_at, offset, State, set_reg, step, run, fetched_at}
 use Rattle.lean.specs.Strayed.{IsOver}
 use Rattle.lean.specs.Undisturbed.{IsDuplicate, InDuplicate, AllDuplicate}
 use Rattle.lean.proofs.Weave.Carry.{Standing, standing_step, slice_index-set_reg_other, length-set_reg, get-put_outside, allows-flags}

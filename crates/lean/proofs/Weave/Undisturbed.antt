@@ -1,8 +1,8 @@
 -- The law: from the entry of a block the original half alone leads the run along the input's run.
-use Rattle.std.proofs.Common.{◌≡◌, ℕ, zero, suc, ◌+◌, ◌*◌, ◌/◌, ◌^◌, ◌≤◌, ◌⊎◌, inl, inr, ⊎_elim, Bool, true, false, List, [], ◌∷◌, length, is_some, refl, sym, ap, ◌∙◌, subst, arith}
+use Rattle.std.proofs.Common.{◌≡◌, ℕ, zero, suc, ◌+◌, ◌*◌, ◌/◌, ◌^◌, ◌≤◌, ◌⊎◌, inl, inr, ⊎_elim, Bool, false, List, [], ◌∷◌, length, is_some, refl, sym, ap, ◌∙◌, subst, arith}
 use Rattle.std.specs.Prelude.{◌-◌, ◌↔◌}
 use Rattle.std.proofs.lemmas.Bool.{cases_eq}
-use Rattle.std.proofs.Math.Nat.{mul-le-mul_left, mul-le-mul_right}
+use Rattle.std.proofs.Math.Nat.{mul-le-mul_right}
 use Rattle.qed_model.specs.Promise.Kept.{after_input, after_output, Halves, Steady, IsSteady}
 use Rattle.qed_model.specs.declared.change.Change.{Change}
 use Rattle.qed_model.specs.Promise.Changed.{changed_run}
@@ -13,9 +13,8 @@ use Rattle.qed_model.specs.Weave.Sequences.{Reads, Block, compare, visit, visit_
 use Rattle.weave_core.specs.Leaving.{sweep_cost}
 use Rattle.weave_core.specs.Rows.{Sourced}
 use Rattle.weave_core.specs.WeaveLaws.{Met}
-use Rattle.weave_core.specs.World.{World, GoodSpans, Program, Going, Ended, AreStartRegs, Item, Ins, Known, next, Go, start, zeros, State, get, flags_at, reg, step, run}
+use Rattle.weave_core.specs.World.{World, GoodSpans, Program, Going, Ended, AreStartRegs, Ins, Known, next, Go, start, zeros, State, get, flags_at, reg, step, run}
 use Rattle.lean.specs.Undisturbed.{HasOriginals, ComesTo, AllDuplicate, SlipsDuplicate, slipped_run, FollowsTo, change_price, Undisturbed, undisturbed_piece, undisturbed_ends}
-use Rattle.lean.specs.Strayed.{IsOver}
 use Rattle.lean.specs.Woven.{LeanPlan, LeanUndisturbed}
 use Rattle.lean.proofs.Weave.Carry.{run-more, run-none, met_same, Standing, standing_run, some-flags, first_sourced, steady_rest}
 use Rattle.lean.proofs.Weave.Chain.{cost_append}

@@ -1,6 +1,5 @@
 use Rattle.lean.proofs.Weave.Undisturbed as undisturbed
 use Rattle.lean.proofs.promises.lean_undisturbed.Goals as goal
-use Rattle.lean.proofs.Weave.Robust.{Robust}
 
 pub returns : goal.returns
 returns c = undisturbed.lean_undisturbed
