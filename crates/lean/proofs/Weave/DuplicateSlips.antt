@@ -4,12 +4,11 @@ use Rattle.std.specs.Prelude.{◌-◌, nat_le, slice_index}
 use Rattle.std.proofs.lemmas.Bool.{cases_lt, cases_eq, le-leb, leb-true}
 use Rattle.rv_isa.specs.declared.class.Class.TheVariants as class
 use Rattle.machine.specs.Table.{Ins}
-use Rattle.machine.proofs.Lemmas.{flags-put, run-last}
 use Rattle.qed_model.specs.Promise.Faults.{GivesAny, gives, skips}
 use Rattle.qed_model.specs.Promise.Kept.{after_output, is_trapped, NotTrapped}
 use Rattle.weave_core.specs.World.{World, Program, Going, memory_of, start, put, number, width_of, loaded, place, result, next_pc, State, reg, set_reg, moved, stored, Known, next, step, run, class_of}
 use Rattle.lean.specs.Undisturbed.{IsDuplicateReg, InDuplicate, SlipsDuplicate, writes, stores, leaves, slipped_run}
-use Rattle.lean.proofs.Weave.Carry.{Standing, run-none, step-compute, step-load, step-store, load_granted, store_granted, width_le, slice_index-set_reg_other, length-set_reg}
+use Rattle.lean.proofs.Weave.Carry.{flags-put, run-last, Standing, run-none, step-compute, step-load, step-store, load_granted, store_granted, width_le, slice_index-set_reg_other, length-set_reg}
 use Rattle.lean.proofs.Weave.Robust.{Disturbed}
 use Rattle.lean.proofs.Weave.Trail.{Played, put_cells, put_code}
 

@@ -4,7 +4,6 @@ use Rattle.std.specs.Prelude.{◌-◌, slice_index, pos}
 use Rattle.std.proofs.lemmas.Bool.{cases_eq, cases_lt, ne_eqb}
 use Rattle.std.proofs.lemmas.List.{set-set}
 use Rattle.machine.specs.Memory.{byte_in}
-use Rattle.machine.proofs.Lemmas.{constant_value}
 use Rattle.rv_isa.specs.declared.class.Class.TheVariants as class
 use Rattle.machine.specs.Table.{ins, Ins, Auipc, Addi, Beq, Ebreak, Lui}
 use Rattle.machine.specs.Offsets.{distance_between, upper_part, lower_part}
@@ -15,7 +14,7 @@ use Rattle.weave_core.specs.WeaveLaws.{Met}
 use Rattle.weave_core.specs.World.{computed_value, value, World, Item, Mark, Plain, Constant, Go, Going, wrapped, get, byte_at, flags_at, State, reg, set_reg, moved, result, execute, Known, step, run, class_of, fetched_at, Quiet, holds}
 use Rattle.lean.specs.Strayed.{IsOver}
 use Rattle.lean.proofs.Weave.Chain.{break_is, no_break}
-use Rattle.lean.proofs.Weave.Carry.{met_going, Keep, Skips, behind, Carried, skipped, keeps, slice_index-set_reg_same, length-set_reg, step-class, step-compute, Over, known_at, pc_four, one_run, run-more, steady_le, steady_rest, Walk, branch_taken, branch_passed, equal_holds, over_moved, step-break}
+use Rattle.lean.proofs.Weave.Carry.{constant_value, met_going, Keep, Skips, behind, Carried, skipped, keeps, slice_index-set_reg_same, length-set_reg, step-class, step-compute, Over, known_at, pc_four, one_run, run-more, steady_le, steady_rest, Walk, branch_taken, branch_passed, equal_holds, over_moved, step-break}
 use Rattle.lean.proofs.Weave.Half.{is_spare, Half, Into, half_over, half_keeps, Holding, set_alike, but, holding_keeps, holding_set}
 use Rattle.lean.proofs.Weave.Turn.{lui_value}
 

@@ -7,7 +7,6 @@ use Rattle.machine.specs.Memory.{Memory, Cell, allows, wrap, flags_at}
 use Rattle.machine.specs.Table.{ins, Ins, Auipc, Ld, Add, Addi, Beq, Bne, Ebreak}
 use Rattle.machine.specs.Offsets.{distance_between, upper_part, lower_part}
 use Rattle.machine.specs.declared.outcome.Outcome.TheVariants.{Ended}
-use Rattle.machine.proofs.Lemmas.{constant_value}
 use Rattle.qed_model.specs.Promise.Kept.{NotTrapped, is_trapped}
 use Rattle.qed_model.specs.Weave.Lean.{check_distance, leave_as, cost}
 use Rattle.qed_model.specs.Weave.Sequences.{Reads, fired_check, check_sign, compare, sweep, before_end, DISTANCE, CURSOR, TEMPORARY, SPARE}
@@ -15,7 +14,7 @@ use Rattle.weave_core.specs.Kinds.{originals}
 use Rattle.weave_core.specs.Rows.{Sourced}
 use Rattle.weave_core.specs.WeaveLaws.{Holds}
 use Rattle.weave_core.specs.World.{World, GoodSpans, AllBelow, Item, Plain, Constant, get, grants, place, wrapped, State, reg, moved, result, stopped, holds, computed_value, Going, Known, step, class_of}
-use Rattle.lean.proofs.Weave.Carry.{keeps, keep_guards, keep_distance, one_run, run-ended, slice_index-set_reg_other, Over, known_at, addi_value, branch_taken, branch_passed, load_granted, allows-flags, met_ended, step-end}
+use Rattle.lean.proofs.Weave.Carry.{constant_value, keeps, keep_guards, keep_distance, one_run, run-ended, slice_index-set_reg_other, Over, known_at, addi_value, branch_taken, branch_passed, load_granted, allows-flags, met_ended, step-end}
 use Rattle.lean.proofs.Weave.Half.{is_spare, but, Half, Into, half_over, half_moved, spare_pair, Holding, holding_set}
 use Rattle.lean.proofs.Weave.Robust.{half_disturbed, Leads, With, LastsWith, Steps, Either, leads_zero, leads_less, leads_either, leads_step, leads_none, leads_original, leads_more, with_lasts, into_lasts, half_leads, computes, Begun, begins, ends_begun, begun_lasts, leads_next, leads_fired, Firing, walked, holding_lasts, Onto, kept_step, set_step, compare_step}
 

@@ -368,13 +368,13 @@ module _ (w : World) (l : Lean) (leader : ℕ → Bool) (x : LeanIn w l leader) 
           on
 
       -- the count is set
-      counts : (N : ℕ) → leader a ≡ true → Back N → Onto w bound price (suc N) K s (13 + few) (Into w a t start)
+      counts : (N : ℕ) → leader a ≡ true → Back N → Onto w bound price (suc N) K s (1 + (12 + few)) (Into w a t start)
       counts N leads on =
           let M = suc N in
           let Zero : State → Type 0 = Fifteen (λ n. n % 4096 ≡ 0) in
           let None : State → Type 0 = λ u. Unit {0} in
-          leads_map w bound price M K s (With w bound price (13 + few) (Into w a t start)) (Knows w bound price gap (Into w a t start) None (13 + few)) (λ m u b. (b.0, inl (tt, b.1)))
-          (known_word w bound price gap small M K s (Into w a t start) (Into w a t (Plain adds ∷ looks)) None Zero (13 + few) (12 + few) (omega arith) (into_lasts w bound price a t start)
+          leads_map w bound price M K s (With w bound price (1 + (12 + few)) (Into w a t start)) (Knows w bound price gap (Into w a t start) None (1 + (12 + few))) (λ m u b. (b.0, inl (tt, b.1)))
+          (known_word w bound price gap small M K s (Into w a t start) (Into w a t (Plain adds ∷ looks)) None Zero (1 + (12 + few)) (12 + few) (omega arith) (into_lasts w bound price a t start)
           (λ u b.
           let v = reg u 15 * 2 ^ 12 % 2 ^ 64 in
           let g = set_step w a t u b.0 (ins Slli 15 15 0 (pos 12)) v refl (omega arith) (omega arith) refl b.1.0 (slli_12 u 15 15 (reg u 15) v refl refl) in
@@ -396,7 +396,7 @@ module _ (w : World) (l : Lean) (leader : ℕ → Bool) (x : LeanIn w l leader) 
           let rest3 = begun first ++ rest4 in
           let rest2 = compare ++ rest3 in
           let rest1 = check_distance d ++ rest2 in
-          let n5 = 3 + (13 + few) in
+          let n5 = 3 + (1 + (12 + few)) in
           let n4 = cost v + n5 in
           let n3 = cost (begun first) + n4 in
           let n2 = cost compare + n3 in
@@ -410,7 +410,7 @@ module _ (w : World) (l : Lean) (leader : ℕ → Bool) (x : LeanIn w l leader) 
           (half_leads w bound price compare (keep_guards is_spare false originals) M K a s t rest3 n3
           (half_leads w bound price (begun first) (inl refl, (refl, (inl refl, tt))) M K a s t rest4 n4
           (half_leads w bound price v (keep_visit w.form.round w.form.spans) M K a s t rest5 n5
-          (half_leads w bound price (Constant TEMPORARY first ∷ Plain (ins Sub CURSOR CURSOR TEMPORARY (pos 0)) ∷ []) (refl, (inl refl, tt)) M K a s t start (13 + few) (counts N leads on))))))))
+          (half_leads w bound price (Constant TEMPORARY first ∷ Plain (ins Sub CURSOR CURSOR TEMPORARY (pos 0)) ∷ []) (refl, (inl refl, tt)) M K a s t start (1 + (12 + few)) (counts N leads on))))))))
 
   -- ---- the words of the entry
   module _ (a : ℕ) (t s : State) (body : List Item) (N K most extra : ℕ) (leads : leader a ≡ true) where

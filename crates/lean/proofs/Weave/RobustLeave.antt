@@ -16,10 +16,9 @@ use Rattle.weave_core.specs.Blocks.{Goes}
 use Rattle.weave_core.specs.Rows.{Sourced}
 use Rattle.weave_core.specs.WeaveLaws.{Met}
 use Rattle.weave_core.specs.World.{World, Item, Mark, Plain, Constant, Go, State, reg, set_reg, moved, trapped, jumped, imm, next_pc, wrapped, holds, result, Known, step, target, class_of}
-use Rattle.weave_core.proofs.Lemmas.{step-jump}
 use Rattle.lean.specs.Strayed.{IsOver}
 use Rattle.lean.specs.Woven.{LeanIn}
-use Rattle.lean.proofs.Weave.Carry.{Keep, Carried, keep_guard, keep_distance, Leaps, leap_step, aim, andi_value, run-none, Branches, branch_step, branch_to, jump_step, keep_way, no_code, known_at, Over, jumped_to, difference, slice_index-set_reg_other, slice_index-set_reg_same, length-set_reg, branch_taken, branch_passed, addi_value, add_result, wrapped-add}
+use Rattle.lean.proofs.Weave.Carry.{step-jump, Keep, Carried, keep_guard, keep_distance, Leaps, leap_step, aim, andi_value, run-none, Branches, branch_step, branch_to, jump_step, keep_way, no_code, known_at, Over, jumped_to, difference, slice_index-set_reg_other, slice_index-set_reg_same, length-set_reg, branch_taken, branch_passed, addi_value, add_result, wrapped-add}
 use Rattle.lean.proofs.Weave.Chain.{cost_append}
 use Rattle.lean.proofs.Weave.Costs.{guard_most, links_most, turn_most, way_most, goes_most, falls_cost}
 use Rattle.lean.proofs.Weave.Half.{is_spare, Half, Into, Holding, half_over, half_regs, half_spare, half_moved, half_original, spare_step, spare_pair, half_view, holding_set}

@@ -17,10 +17,9 @@ use Rattle.weave_core.specs.World.{World, Item, Plain, Constant, get, byte_at, b
 use Rattle.lean.specs.Strayed.{IsOver}
 use Rattle.lean.proofs.Weave.Chain.{cost_append, no_break}
 use Rattle.lean.proofs.Weave.Costs.{guard_most}
-use Rattle.lean.proofs.Weave.Carry.{Keep, keep_append, keep_guard, keep_mirror, one_run, slice_index-set_reg_other, slice_index-set_reg_same, step-class, Over, known_at, run-more, auipc_is, IsBodyWord, body_computes, body_loads, body_stores, body_fences, body_word, pc_four, Standing, standing_step, step-compute, step-load, step-store, get-put_outside, byte_at-put_outside, same_number, byte_after, grants-weaker, some-flags, untouched, allows-flags, auipc_step, result_alike, step-fence, load_granted, store_granted, mapped_in, raised_place, spared, source_run, width_le, add_result, sub_result, has_front, has_rest}
+use Rattle.lean.proofs.Weave.Carry.{steady_none, Keep, keep_append, keep_guard, keep_mirror, one_run, slice_index-set_reg_other, slice_index-set_reg_same, step-class, Over, known_at, run-more, auipc_is, IsBodyWord, body_computes, body_loads, body_stores, body_fences, body_word, pc_four, Standing, standing_step, step-compute, step-load, step-store, get-put_outside, byte_at-put_outside, same_number, byte_after, grants-weaker, some-flags, untouched, allows-flags, auipc_step, result_alike, step-fence, load_granted, store_granted, mapped_in, raised_place, spared, source_run, width_le, add_result, sub_result, has_front, has_rest}
 use Rattle.lean.proofs.Weave.Half.{is_spare, but, Half, Into, Holding, IntoHolding, half_over, half_spare, half_moved, half_original, holding_keeps, spare_pair}
 use Rattle.lean.proofs.Weave.Robust.{With, Lasts, leads_keep, half_lasts, into_lasts, half_leads, leads_word, leads_original, leads_none, leads_more, half_met, words_last, leads_compute, Begun, begun_lasts, begins, ends_begun, Onto, steady_first, steady_join, steady_calm, holding_lasts, leads_compare}
-use Rattle.weave_core.proofs.Lemmas.{steady_none}
 
 -- no store
 abbrev Bare : Ins → Type 0

@@ -6,7 +6,7 @@ use Rattle.std.proofs.lemmas.List.{length-set}
 use Rattle.rv_isa.specs.declared.class.Class.TheVariants as class
 use Rattle.machine.specs.Table.{ins, Ins, Addi, Lui}
 use Rattle.qed_model.specs.Weave.Lean.{begin}
-use Rattle.qed_model.specs.Weave.Sequences.{zero_from, ORIGINALS, DISTANCE, CURSOR}
+use Rattle.qed_model.specs.Weave.Sequences.{zero_from, ORIGINALS, LAST_ORIGINAL, DISTANCE, CURSOR}
 use Rattle.weave_core.specs.Describes.{Describes}
 use Rattle.weave_core.specs.World.{World, Item, Plain, Constant, Go, Program, start, zeros, AreStartRegs, State, reg, set_reg, moved, result, class_of, byte_at, get, flags_at}
 use Rattle.lean.proofs.Weave.Carry.{writes_out, writes_long, slice_index-set_reg_other, slice_index-set_reg_same, Over, over_moved, addi_value, writes, first_sourced, length-set_reg, slice_index-set_reg_zero}
@@ -93,13 +93,13 @@ module _ (w : World) (s : State) (a : ℕ) where
           one (ins Addi r 0 0 (pos 0)) 0 (n + most) (suc n + most) (zeros_of (r + 1) n ws) (zero_from (r + 1) n ++ xs) (omega arith) refl (omega (arith, h)) (are_zeros (r + 1) n ws (omega (arith, h)) k) (λ u z. addi_value u r 0 0 0 (pos 0) z (omega arith))
           (zero_words (r + 1) n most ws xs (omega (arith, h)) k rest)
 
-      pub begin_words : (most : ℕ) → a < 2 ^ 64 → w.distance < 2 ^ 64 → Leads_to most [] (Go a ∷ []) → Leads_to (13 + (13 + (1 + (2 + (1 + most))))) (all_writes w a) (begin w.distance a)
+      pub begin_words : (most : ℕ) → a < 2 ^ 64 → w.distance < 2 ^ 64 → Leads_to most [] (Go a ∷ []) → Leads_to (ORIGINALS + (ORIGINALS + (1 + (2 + (1 + most))))) (all_writes w a) (begin w.distance a)
       begin_words most low small rest =
           let count = Plain (ins Addi CURSOR 0 0 (pos 2047)) ∷ Go a ∷ [] in
           let sign : List Item = Constant 16 a ∷ count in
           let apart : List Item = Plain (ins Lui DISTANCE 0 0 (pos w.distance)) ∷ sign in
-          zero_words 1 13 (13 + (1 + (2 + (1 + most)))) (zeros_of 17 ORIGINALS (last_writes w a)) (zero_from 17 13 ++ apart) (omega arith) (are_zeros 17 13 (last_writes w a) (omega arith) (omega arith, (omega arith, (omega arith, tt))))
-          (zero_words 17 13 (1 + (2 + (1 + most))) (last_writes w a) apart (omega arith) (omega arith, (omega arith, (omega arith, tt)))
+          zero_words 1 ORIGINALS (ORIGINALS + (1 + (2 + (1 + most)))) (zeros_of 17 ORIGINALS (last_writes w a)) (zero_from 17 ORIGINALS ++ apart) (omega arith) (are_zeros 17 ORIGINALS (last_writes w a) (omega arith) (omega arith, (omega arith, (omega arith, tt))))
+          (zero_words 17 ORIGINALS (1 + (2 + (1 + most))) (last_writes w a) apart (omega arith) (omega arith, (omega arith, (omega arith, tt)))
           (one (ins Lui DISTANCE 0 0 (pos w.distance)) w.distance (2 + (1 + most)) (1 + (2 + (1 + most))) ((16, a) ∷ (15, 2047) ∷ []) sign (omega arith) refl (omega arith) (omega arith, (omega arith, tt)) (λ u z. lui_small u 14 w.distance small)
           (constant 16 a (1 + most) ((15, 2047) ∷ []) count (inr (inl refl)) (omega arith) low (omega arith, tt)
           (one (ins Addi CURSOR 0 0 (pos 2047)) 2047 most (1 + most) [] (Go a ∷ []) (omega arith) refl (omega arith) tt (λ u z. addi_value u 15 0 0 2047 (pos 2047) z (omega arith)) rest))))
@@ -144,7 +144,7 @@ module _ (f g : Program) (w : World) (of : Describes f g w) (regs : List ℕ) (a
     apart r lo hi e = ⊎_elim (λ x. omega (arith, lo, e, x)) (λ x. omega (arith, hi, e, x)) h
 
   pairs_skip : (q : ℕ) → (q < 14) → (k : List ℕ) → slice_index (writes (zeros_of 17 ORIGINALS ends) k) q ≡ slice_index k q
-  pairs_skip q h k = zeros_skip 17 13 ends k q (inl (omega (arith, h))) (ends_skip q (inl h))
+  pairs_skip q h k = zeros_skip 17 ORIGINALS ends k q (inl (omega (arith, h))) (ends_skip q (inl h))
 
   long0 : length u0.regs ≡ 32
   long0 = length-set regs 0 0 ∙ are.count
@@ -153,13 +153,13 @@ module _ (f g : Program) (w : World) (of : Describes f g w) (regs : List ℕ) (a
   zero0 = set_first regs
 
   long_all : length (writes all u0.regs) ≡ 32
-  long_all = zeros_long 1 13 (zeros_of 17 ORIGINALS ends) u0.regs (λ k. zeros_long 17 13 ends k (λ j. writes_long ends j)) ∙ long0
+  long_all = zeros_long 1 ORIGINALS (zeros_of 17 ORIGINALS ends) u0.regs (λ k. zeros_long 17 ORIGINALS ends k (λ j. writes_long ends j)) ∙ long0
 
-  original_zero : (q : ℕ) → q ≤ 13 → slice_index (writes all u0.regs) q ≡ 0
+  original_zero : (q : ℕ) → q ≤ LAST_ORIGINAL → slice_index (writes all u0.regs) q ≡ 0
   original_zero q h =
       ⊎_elim
-      (λ e. zeros_skip 1 13 (zeros_of 17 ORIGINALS ends) u0.regs q (inl (omega (arith, e))) (pairs_skip q (omega (arith, h))) ∙ ap (slice_index u0.regs) e ∙ zero0)
-      (λ ne. zeros_are 1 13 (zeros_of 17 ORIGINALS ends) u0.regs q long0 (omega arith) (omega arith) (omega (arith, ne)) (omega (arith, h)) (pairs_skip q (omega (arith, h))))
+      (λ e. zeros_skip 1 ORIGINALS (zeros_of 17 ORIGINALS ends) u0.regs q (inl (omega (arith, e))) (pairs_skip q (omega (arith, h))) ∙ ap (slice_index u0.regs) e ∙ zero0)
+      (λ ne. zeros_are 1 ORIGINALS (zeros_of 17 ORIGINALS ends) u0.regs q long0 (omega arith) (omega arith) (omega (arith, ne)) (omega (arith, h)) (pairs_skip q (omega (arith, h))))
       (cases_eq q 0)
 
   pub start_awaits : Awaits w s0 a all u0

@@ -10,7 +10,6 @@ use Rattle.machine.specs.declared.place.Place.{Place}
 use Rattle.machine.specs.declared.place.Place.TheVariants.{Reg, Word}
 use Rattle.machine.specs.Step.{step_at}
 use Rattle.machine.specs.Struck.{struck}
-use Rattle.machine.proofs.Lemmas.{same_fetch, flags-put}
 use Rattle.qed_model.specs.Promise.Kept.{is_trapped}
 use Rattle.qed_model.specs.declared.change.Change.{Change}
 use Rattle.qed_model.specs.Promise.Changed.{changed, changed_as, with_changes, changed_run}
@@ -18,7 +17,7 @@ use Rattle.weave_core.specs.WeaveLaws.{Met}
 use Rattle.weave_core.specs.World.{World, Program, Going, Memory, get, put, allows, memory_of, byte_at, offset, State, set_reg, step, run, fetched_at}
 use Rattle.lean.specs.Strayed.{IsOver}
 use Rattle.lean.specs.Undisturbed.{IsDuplicate, InDuplicate, AllDuplicate}
-use Rattle.lean.proofs.Weave.Carry.{Standing, standing_step, slice_index-set_reg_other, length-set_reg, get-put_outside, allows-flags}
+use Rattle.lean.proofs.Weave.Carry.{same_fetch, flags-put, Standing, standing_step, slice_index-set_reg_other, length-set_reg, get-put_outside, allows-flags}
 use Rattle.lean.proofs.Weave.Robust.{Disturbed, Robust}
 
 -- ---- states that do not go on

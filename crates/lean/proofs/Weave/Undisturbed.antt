@@ -16,7 +16,7 @@ use Rattle.weave_core.specs.WeaveLaws.{Met}
 use Rattle.weave_core.specs.World.{World, GoodSpans, Program, Going, Ended, AreStartRegs, Ins, Known, next, Go, start, zeros, State, get, flags_at, reg, step, run}
 use Rattle.lean.specs.Undisturbed.{HasOriginals, ComesTo, AllDuplicate, SlipsDuplicate, slipped_run, FollowsTo, change_price, Undisturbed, undisturbed_piece, undisturbed_ends}
 use Rattle.lean.specs.Woven.{LeanPlan, LeanUndisturbed}
-use Rattle.lean.proofs.Weave.Carry.{run-more, run-none, met_same, Standing, standing_run, some-flags, first_sourced, steady_rest}
+use Rattle.lean.proofs.Weave.Carry.{run-last, run-more, run-none, met_same, Standing, standing_run, some-flags, first_sourced, steady_rest}
 use Rattle.lean.proofs.Weave.Chain.{cost_append}
 use Rattle.lean.proofs.Weave.Half.{Half}
 use Rattle.lean.proofs.Weave.Inside.{sized_run}
@@ -28,7 +28,6 @@ use Rattle.lean.proofs.Weave.RobustRun.{round, entry_cost, entered_leads}
 use Rattle.lean.proofs.Weave.RobustStart.{Awaits, awaits_last, begin_words, start_awaits}
 use Rattle.lean.proofs.Weave.Trail.{Played, robust_more, robust_disturbed, follows, changes_play, first_changes}
 use Rattle.lean.proofs.Weave.DuplicateSlips.{slip_disturbs, slip_plays, slip_begins}
-use Rattle.machine.proofs.Lemmas.{run-last}
 
 -- ---- steps
 wraps_cost : (spans : List (ℕ × ℕ)) (first : ℕ) → cost (wraps spans first) ≤ 5 * length spans
