@@ -9,8 +9,9 @@ use Rattle.tests.specs.Admission.Leaders.{HasIndirect, is_indirect, IsLeader, Be
 use Rattle.tests.specs.Admission.Refusals.{IsAdmitted}
 use Rattle.tests.specs.Elf.FileRead.{file_read}
 use Rattle.machine.specs.Loading.{loaded_file}
-use Rattle.machine.specs.Cells.{cell_among}
-use Rattle.machine.specs.Numbers.{bytes_of}
+use Rattle.machine.specs.Below.{gather}
+use Rattle.machine.specs.Cells.{cell_among, number_among}
+use Rattle.machine.specs.Numbers.{bytes_of, number_bytes}
 use Rattle.machine.specs.Struck.{struck}
 use Rattle.machine.specs.declared.place.Place.TheVariants.{Reg, Word}
 use Rattle.machine.proofs.Lemmas.{AllSized, every_all, every_among, found_among, get_among, has_not, has_parts, none_among}
@@ -23,13 +24,14 @@ use Rattle.qed_model.specs.Weave.OutputFile.{table_bytes}
 use Rattle.qed_model.specs.Weave.Placed.{placed, rows_from}
 use Rattle.qed_model.specs.Weave.LeanCode.{lean_items}
 use Rattle.qed_model.specs.Weave.LeanBounds.{lean_bounds}
-use Rattle.qed_model.specs.Promise.Faults.{FaultsFound, gives}
+use Rattle.qed_model.specs.Promise.Closed.{is_checked}
+use Rattle.qed_model.specs.Promise.Faults.{FaultsFound, gives, misled}
 use Rattle.qed_model.specs.Promise.InStep.{SettlesWithin}
 use Rattle.qed_model.specs.Promise.Kept.{after_input, after_output, is_mapped}
-use Rattle.qed_model.specs.Promise.Landed.{placed_at}
+use Rattle.qed_model.specs.Promise.Landed.{Fires, placed_at}
 use Rattle.qed_model.proofs.ExampleCode as code
 use Rattle.qed_model.proofs.Lemmas.{defaults, covers_steady}
-use Rattle.weave_core.specs.World.{Program, Cell, allows, memory_of, start, zeros, Going, Ended, Fired, Ins, Addi, Known, State, byte_at, class_of, get, HasAt, fetched_at, moved, next, next_pc, reg, run, set_reg, DISTANCE, CURSOR, SIGNATURE, execute, jumped, computed_value, value, holds}
+use Rattle.weave_core.specs.World.{Program, Cell, allows, memory_of, start, zeros, Going, Ended, Fired, Ins, Addi, Beq, Bne, Ebreak, Known, ebreak, loaded, State, byte_at, class_of, get, HasAt, fetched_at, moved, next, next_pc, reg, run, set_reg, DISTANCE, CURSOR, SIGNATURE, execute, jumped, computed_value, value, holds}
 use Rattle.weave_core.proofs.FileOfItems as of
 use Rattle.weave_core.proofs.FilesFit.{length-table}
 use Rattle.tests.proofs.Lemmas.{zeros_start}
@@ -42,7 +44,7 @@ use Rattle.lean.proofs.Weave.Tests as lean
 use Rattle.weave_examples.proofs.KnownFiles.{loop, loop_sound}
 use Rattle.weave_examples.proofs.LoopExample.{loop_code, loop_known, loop_blocks, loop_each, loop_are}
 use Rattle.weave_examples.proofs.LoopKept.{loop_input, none, steady_none}
-use Rattle.weave_examples.proofs.ListedRuns.{found, go, is_simple_run, run_is, state_of}
+use Rattle.weave_examples.proofs.ListedRuns.{found, go, go_loading, is_loading_run, is_simple_run, loading_run, run_is, state_of}
 use Rattle.weave_examples.proofs.ListedChanges.{changes_go}
 
 -- ---- the test
@@ -359,3 +361,52 @@ slips_there =
 slips_fires : (slipped_run lean_output zeros 16 slipped 46).outcome ≡ Fired
 unfolding execute jumped computed_value value holds
 slips_fires = ap (λ s. (run (moved (set_reg 20 9 s.regs) (next_pc s) s) 29).outcome) before_slip ∙ ap (λ s. s.outcome) (runs 29 (state_of lean_output (set_reg 20 9 zeros) 0x13044 Going) refl refl refl)
+
+-- ---- a wrong branch of the test: that of the first turn is next after 91 steps, behind the first check, and is taken
+abbrev in_turn : List ℕ
+in_turn = 0 ∷ 0 ∷ 0 ∷ 0 ∷ 0 ∷ 1 ∷ 0 ∷ 0 ∷ 0 ∷ 0 ∷ 0 ∷ 0 ∷ 0 ∷ 0 ∷ 4096 ∷ 892 ∷ 0x10004 ∷ 0 ∷ 0 ∷ 0 ∷ 0 ∷ 1 ∷ 0 ∷ 0 ∷ 0 ∷ 0 ∷ 0 ∷ 0 ∷ 0 ∷ 0 ∷ 0x10004 ∷ 0x37c0000000000000 ∷ []
+
+with_loads : (n : ℕ) → is_loading_run lean_output.segments 0x13000 new_code n (start lean_output zeros) ≡ true → after_output lean_output zeros n ≡ go_loading lean_output.segments 0x13000 new_code n (start lean_output zeros)
+with_loads n simple = loading_run lean_output.segments sized lean_output.ranges 0x13000 new_code stand n (start lean_output zeros) simple refl refl
+
+before_branch : after_output lean_output zeros 91 ≡ state_of lean_output in_turn 0x131a8 Going
+unfolding execute jumped computed_value value holds loaded number_among gather number_bytes
+before_branch = with_loads 91 refl
+
+branch_next : next (after_output lean_output zeros 91) ≡ Known (ins Beq 0 5 0 (pos 16))
+branch_next = ap next before_branch ∙ found (fetched_at (memory_of lean_output.segments) lean_output.ranges) 0x13000 new_code 0x131a8 (ins Beq 0 5 0 (pos 16)) stand refl
+
+branch_checked : is_checked (Known (ins Beq 0 5 0 (pos 16))) (let s = after_output lean_output zeros 91 in fetched_at s.memory s.ranges (next_pc s)) ≡ true
+unfolding is_checked
+branch_checked = ap (λ s. is_checked (Known (ins Beq 0 5 0 (pos 16))) (fetched_at s.memory s.ranges (next_pc s))) before_branch ∙ ap (is_checked (Known (ins Beq 0 5 0 (pos 16)))) (found (fetched_at (memory_of lean_output.segments) lean_output.ranges) 0x13000 new_code 0x131ac (ins Bne 0 21 0 (pos 8)) stand refl)
+
+-- all premises of the promise are met
+branch_fires : Fires 2 (misled (ins Beq 0 5 0 (pos 16)) (after_output lean_output zeros 91))
+branch_fires =
+    lean_faults.branches zeros 91 (ins Beq 0 5 0 (pos 16)) zeros_start (ap (λ s. s.outcome) before_branch) branch_next
+    (record { own = record { branch = refl; first = omega arith; second = omega arith; some = omega arith }; checked = branch_checked })
+    (covers_steady loop_input lean_output none 31 182 zeros 94 (steady_none 94 (omega arith)))
+
+branch_fired : run (misled (ins Beq 0 5 0 (pos 16)) (after_output lean_output zeros 91)) 2 ≡ state_of lean_output in_turn 0x131bc Fired
+unfolding execute jumped computed_value value holds
+branch_fired = ap (λ s. run (misled (ins Beq 0 5 0 (pos 16)) s) 2) before_branch ∙ runs 2 (state_of lean_output in_turn 0x131b8 Going) refl refl refl
+
+-- ---- a wrong comparison: the branch on the pairs behind it, which is next after 92 steps, goes on to its EBREAK
+before_pairs : after_output lean_output zeros 92 ≡ state_of lean_output in_turn 0x131ac Going
+unfolding execute jumped computed_value value holds loaded number_among gather number_bytes
+before_pairs = with_loads 92 refl
+
+pairs_go : (misled (ins Bne 0 21 0 (pos 8)) (after_output lean_output zeros 92)).outcome ≡ Going
+unfolding holds
+pairs_go = ap (λ s. (misled (ins Bne 0 21 0 (pos 8)) s).outcome) before_pairs
+
+pairs_next : next (misled (ins Bne 0 21 0 (pos 8)) (after_output lean_output zeros 92)) ≡ ebreak
+unfolding holds
+pairs_next = ap (λ s. next (misled (ins Bne 0 21 0 (pos 8)) s)) before_pairs ∙ found (fetched_at (memory_of lean_output.segments) lean_output.ranges) 0x13000 new_code 0x131b0 (ins Ebreak 0 0 0 (pos 0)) stand refl
+
+pairs_fire : Fires 1 (misled (ins Bne 0 21 0 (pos 8)) (after_output lean_output zeros 92))
+pairs_fire = lean_faults.comparisons zeros 92 (ins Bne 0 21 0 (pos 8)) pairs_go pairs_next
+
+pairs_fired : run (misled (ins Bne 0 21 0 (pos 8)) (after_output lean_output zeros 92)) 1 ≡ state_of lean_output in_turn 0x131b0 Fired
+unfolding execute holds
+pairs_fired = ap (λ s. run (misled (ins Bne 0 21 0 (pos 8)) s) 1) before_pairs ∙ runs 1 (state_of lean_output in_turn 0x131b0 Going) refl refl refl

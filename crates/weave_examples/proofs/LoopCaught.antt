@@ -3,13 +3,14 @@ use Rattle.std.proofs.Common.{◌≡◌, inl, ℕ, ◌+◌, true, false, List, [
 use Rattle.std.specs.Prelude.{pos}
 use Rattle.qed_model.specs.declared.change.Change.{Change}
 use Rattle.machine.specs.declared.place.Place.TheVariants.{Reg}
-use Rattle.weave_core.specs.World.{memory_of, start, zeros, Going, Fired, Addi, Beq, Bne, Ebreak, Jal, State, Known, fetched_at, next, next_pc, moved, set_reg, run, ins, execute, jumped, computed_value, value, holds}
+use Rattle.weave_core.specs.World.{memory_of, start, zeros, Going, Fired, Addi, Beq, Bne, Ebreak, Jal, State, Known, ebreak, fetched_at, next, next_pc, moved, set_reg, run, ins, execute, jumped, computed_value, value, holds}
 use Rattle.machine.specs.Struck.{struck}
 use Rattle.qed_model.specs.Promise.InStep.{CaughtInStep, SettlesWithin}
 use Rattle.qed_model.specs.Promise.Changed.{changed_run}
 use Rattle.qed_model.specs.Promise.Faults.{FaultsFound, BranchesFound, IsTurned, misled, gives}
 use Rattle.qed_model.specs.Promise.Closed.{is_closed, uses, guards_other, is_checked}
 use Rattle.qed_model.specs.Promise.Kept.{after_output, any_address}
+use Rattle.qed_model.specs.Promise.Landed.{Fires}
 use Rattle.qed_model.proofs.Lemmas.{defaults, steady_any, any_reached, covers_steady}
 use Rattle.weave_examples.proofs.KnownFiles.{loop}
 use Rattle.weave_examples.proofs.LoopExample.{loop_plan, loop_told, loop_blocks}
@@ -91,6 +92,22 @@ wrong_is = ap (λ s. moved (set_reg 5 7 s.regs) (next_pc s) s) before_two
 two_fired : run wrong_two 7 ≡ state_of loop_output (first_turn 7 2) 0x130b4 Fired
 unfolding execute jumped computed_value value holds
 two_fired = ap (λ s. run s 7) wrong_is ∙ run_is (memory_of loop_output.segments) loop_output.ranges 0x13000 loop_new_code loop_stand 7 (state_of loop_output (first_turn 7 0) 0x1308c Going) refl refl refl
+
+-- ---- a wrong comparison: the guard of x5, which is next after 72 steps, goes on to its EBREAK
+guard_goes : (misled (ins Beq 0 5 21 (pos 8)) (after_output loop_output zeros 72)).outcome ≡ Going
+unfolding holds
+guard_goes = ap (λ s. (misled (ins Beq 0 5 21 (pos 8)) s).outcome) before_change
+
+guard_next : next (misled (ins Beq 0 5 21 (pos 8)) (after_output loop_output zeros 72)) ≡ ebreak
+unfolding holds
+guard_next = ap (λ s. next (misled (ins Beq 0 5 21 (pos 8)) s)) before_change ∙ found (fetched_at (memory_of loop_output.segments) loop_output.ranges) 0x13000 loop_new_code 0x131a0 (ins Ebreak 0 0 0 (pos 0)) loop_stand refl
+
+guard_fires : Fires 1 (misled (ins Beq 0 5 21 (pos 8)) (after_output loop_output zeros 72))
+guard_fires = loop_faults.comparisons zeros 72 (ins Beq 0 5 21 (pos 8)) guard_goes guard_next
+
+guard_fired : run (misled (ins Beq 0 5 21 (pos 8)) (after_output loop_output zeros 72)) 1 ≡ state_of loop_output (turn 1) 0x131a0 Fired
+unfolding execute holds
+guard_fired = ap (λ s. run (misled (ins Beq 0 5 21 (pos 8)) s) 1) before_change ∙ run_is (memory_of loop_output.segments) loop_output.ranges 0x13000 loop_new_code loop_stand 1 (state_of loop_output (turn 1) 0x131a0 Going) refl refl refl
 
 -- ---- a wrong branch: that of the first turn is not taken
 loop_turned : BranchesFound 6 loop_input loop_output none 32 120

@@ -1,25 +1,31 @@
 -- The promises on changes hold of a known file, a test with a data word: all their premises are met.
-use Rattle.std.proofs.Common.{◌≡◌, ℕ, zero, suc, ◌+◌, ◌-◌, ◌%◌, ◌≤◌, Bool, true, cond, ◌&&◌, [], ◌∷◌, Option, refl, sym, ap, ◌∙◌, arith, inl, List, Some}
+use Rattle.std.proofs.Common.{◌≡◌, ℕ, ◌+◌, ◌-◌, ◌%◌, ◌≤◌, true, false, cond, ◌&&◌, [], ◌∷◌, refl, sym, ap, ◌∙◌, subst, arith, inl, List, Some}
 use Rattle.std.specs.Prelude.{◌==◌}
+use Rattle.std.proofs.lemmas.Bool.{leb-true}
 use Rattle.machine.specs.declared.outcome.Cause.TheVariants as cause
-use Rattle.machine.specs.Cells.{cell_among, number_among}
+use Rattle.machine.specs.Below.{each}
+use Rattle.machine.specs.Cells.{number_among}
 use Rattle.machine.specs.Loading.{load_segments}
-use Rattle.weave_core.specs.World.{Outcome, Going, Ended, Flags, Cell, Memory, wrap, allows, number, grants, put, memory_of, start, zeros, State, Refused, HasAt, known_or, in_range, fetched_at, trapped, execute, computed_value, step, run, value, loaded}
+use Rattle.weave_core.specs.World.{Outcome, Going, Ended, Memory, number, grants, put, memory_of, start, zeros, State, Ins, Known, Refused, HasAt, known_or, next, next_pc, place, stored, in_range, fetched_at, trapped, execute, computed_value, step, run, value, holds, jumped, loaded}
 use Rattle.machine.specs.Table.{decode_of}
 use Rattle.qed_model.specs.Promise.Kept.{after_input, NotTrapped, is_trapped, after_output, any_address}
-use Rattle.machine.proofs.Lemmas.{get_among, number-among, grants-put, number-put_apart, apart_before, AllSized, step-known, run-more}
+use Rattle.machine.proofs.Lemmas.{number-among, grants-put, number-put_apart, apart_before, AllSized, step-known, run-more}
 use Rattle.tests.proofs.Lemmas.{all_sized_among, zeros_start}
 use Rattle.tests.specs.Elf.Sound.{AreLoads}
 use Rattle.qed_model.specs.declared.change.Change.{Change}
 use Rattle.machine.specs.declared.place.Place.TheVariants.{Word}
-use Rattle.qed_model.specs.Promise.Changed.{changed_run}
+use Rattle.qed_model.specs.Promise.Changed.{changed_run, IsDataWord}
+use Rattle.qed_model.specs.Promise.Faults.{FaultsFound, stores, word_around}
+use Rattle.qed_model.specs.Weave.Placed.{placed}
+use Rattle.qed_model.specs.Weave.Woven.{new_items}
 use Rattle.qed_model.specs.Promise.InStep.{CaughtInStep, CleanInStep, SettlesWithin}
-use Rattle.qed_model.proofs.Lemmas.{defaults, swept, steady_any, any_reached, covers_steady}
+use Rattle.qed_model.proofs.Lemmas.{defaults, sound, swept, steady_any, any_reached, covers_steady}
+use Rattle.weave_core.proofs.TestKept as kept
 use Rattle.weave_core.proofs.Lemmas.{run-ended}
-use Rattle.lockstep.proofs.Lemmas.{tests_caught, tests_clean}
+use Rattle.lockstep.proofs.Lemmas.{instruction_faults_are_caught, tests_caught, tests_clean}
 use Rattle.weave_examples.proofs.KnownFiles.{store, store_sound}
-use Rattle.weave_examples.proofs.StoreExample.{store_code, store_known, store_admitted, lui, ld, add, sd, ecall, store_plan, store_told, store_blocks}
-use Rattle.weave_examples.proofs.ListedRuns.{has_code}
+use Rattle.weave_examples.proofs.StoreExample.{store_code, store_known, store_admitted, lui, ld, add, sd, ecall, store_plan, store_told, store_blocks, store_are}
+use Rattle.weave_examples.proofs.ListedRuns.{found, grants_among, has_code, loading_run, state_of}
 use Rattle.weave_examples.proofs.StoreKept.{store_input, store_words, swept_words, store_output, swept_output}
 
 -- ---- the run of a known test with a data word, computed step by step: it loads 5, and stores 10 there
@@ -35,21 +41,11 @@ sized = all_sized_among (load_segments store.segments) loads.sized
 code : HasAt (fetched_at m store_input.ranges) 0x10000 store_code
 code = has_code store (record { loads = loads; sections = store_admitted.sections; segments = store_admitted.segments }) 0x10000 store_code store_known.stand
 
--- whether an access is granted, by the segments
-abbrev granted : (Flags → Bool) → (ℕ → Option Cell) → ℕ → ℕ → Bool
-granted need c a zero = true
-granted need c a (suc n) = allows need (c (wrap a)) && granted need c (a + 1) n
-
-grants_among : (need : Flags → Bool) (a n : ℕ) → grants need m a n ≡ granted need (cell_among (load_segments store.segments)) a n
-unfolding grants
-grants_among need a zero = refl
-grants_among need a (suc n) = ap (λ c. allows need c && grants need m (a + 1) n) (get_among (load_segments store.segments) (wrap a) sized) ∙ ap (λ b. allows need (cell_among (load_segments store.segments) (wrap a)) && b) (grants_among need (a + 1) n)
-
 reads : grants (λ f. f.read) m 0x20000 8 ≡ true
-reads = grants_among (λ f. f.read) 0x20000 8
+reads = grants_among (load_segments store.segments) sized (λ f. f.read) 0x20000 8
 
 writes : grants (λ f. f.write) m 0x20000 8 ≡ true
-writes = grants_among (λ f. f.write) 0x20000 8
+writes = grants_among (load_segments store.segments) sized (λ f. f.write) 0x20000 8
 
 five : number m 0x20000 8 ≡ 5
 unfolding number_among
@@ -130,3 +126,40 @@ nine = record { step = 0; place = Word 0x20000; value = 9 }
 word_settles : SettlesWithin spans 0 392 (changed_run (start store_output zeros) (nine ∷ [])) (after_output store_output zeros)
 unfolding run
 word_settles = store_caught.settles zeros (nine ∷ []) 392 zeros_start tt (inl (refl, omega arith, omega arith), tt, tt) refl (covers_steady store_input store_output any_address 32 120 zeros 392 ((steady_any store_input 392).1 (store_calm 392 (omega arith)))) refl
+
+-- ---- a wrong instruction: the test's store stores 7, not 10
+store_faults : FaultsFound store_input store_output any_address spans (record { piece = 120; register = 272; word = Some 392; start = 32 }) 32 120
+store_faults = instruction_faults_are_caught store defaults store_blocks store_words.0 store_plan store_words.1 store_told any_address (any_reached store defaults refl)
+
+abbrev new_code : List Ins
+new_code = placed false 0x43000 (new_items store defaults store_blocks)
+
+stand : HasAt (fetched_at (memory_of store_output.segments) store_output.ranges) 0x43000 new_code
+stand = kept.stand store defaults (sound false) loads store_admitted store_blocks (store_are false) store_words.0 store_words.1.code store_words.1.few
+
+output_sized : AllSized store_output.segments
+unfolding each
+output_sized = (omega arith, (leb-true _ _ refl, (omega arith, (leb-true _ _ refl, (omega arith, tt)))))
+
+-- it is next after 91 steps
+before_store : after_output store_output zeros 91 ≡ state_of store_output (0 ∷ 0 ∷ 0 ∷ 0 ∷ 0 ∷ 0 ∷ 0 ∷ 0 ∷ 0x20000 ∷ 5 ∷ 10 ∷ 0 ∷ 0 ∷ 0 ∷ 0x11000 ∷ 0x20000 ∷ 0x10000 ∷ 0 ∷ 0 ∷ 0 ∷ 0 ∷ 0 ∷ 0 ∷ 0 ∷ 0x20000 ∷ 5 ∷ 10 ∷ 0 ∷ 0 ∷ 0 ∷ 0x20008 ∷ 5 ∷ []) 0x431ec Going
+unfolding execute jumped computed_value value holds loaded number_among each
+before_store = loading_run store_output.segments output_sized store_output.ranges 0x43000 new_code stand 91 (start store_output zeros) refl refl refl
+
+store_next : next (after_output store_output zeros 91) ≡ Known sd
+store_next = ap next before_store ∙ found (fetched_at (memory_of store_output.segments) store_output.ranges) 0x43000 new_code 0x431ec sd stand refl
+
+stores_word : IsDataWord spans (word_around (place sd (after_output store_output zeros 91)))
+stores_word = subst (λ s. IsDataWord spans (word_around (place sd s))) (sym before_store) (inl (refl, omega arith, omega arith))
+
+stores_last : IsDataWord spans (word_around (place sd (after_output store_output zeros 91) + 8 - 1))
+stores_last = subst (λ s. IsDataWord spans (word_around (place sd s + 8 - 1))) (sym before_store) (inl (refl, omega arith, omega arith))
+
+abbrev wrong_store : State
+wrong_store = let s = after_output store_output zeros 91 in stored (put s.memory (place sd s) 8 7) (next_pc s) s
+
+-- all premises of the promise are met
+store_settles : SettlesWithin spans 0 392 (run wrong_store) (λ k. after_output store_output zeros (92 + k))
+store_settles =
+    store_faults.stores zeros 91 392 sd wrong_store zeros_start (ap (λ s. s.outcome) before_store) store_next (record { stores = refl; first = stores_word; last = stores_last }) (stores 7 refl) refl
+    (covers_steady store_input store_output any_address 32 120 zeros (92 + 392) ((steady_any store_input (92 + 392)).1 (store_calm (92 + 392) (omega arith))))
