@@ -1,12 +1,8 @@
 -- The known test with a loop in the lean form, with entries that test the signature: it has words, and its promises on
--- jumps that land wrong, on x14 and on the duplicate half are at work, with computed runs.
-use Rattle.std.proofs.Common.{◌≡◌, ◌⊎◌, inl, inr, ⊎_elim, ℕ, zero, suc, ◌+◌, ◌*◌, ◌%◌, ◌<◌, ◌≤◌, true, false, not, List, [], ◌∷◌, length, Option, Some, None, is_some, refl, sym, ap, ◌∙◌, subst, arith}
-use Rattle.std.specs.Prelude.{pos, slice_index, ◌==◌, ◌||◌}
-use Rattle.std.proofs.lemmas.Bool.{false≢true, eqb-true, eq-eqb, or_cases, not-true}
-use Rattle.tests.specs.declared.options.Options.{Options}
-use Rattle.tests.specs.declared.options.Entries.TheVariants as entries
-use Rattle.tests.specs.Admission.Leaders.{HasIndirect, is_indirect, IsLeader, Begins, Entry, Target, After, Named, Reached, Even}
-use Rattle.tests.specs.Admission.Refusals.{IsAdmitted}
+-- jumps that land wrong, on x14, on the duplicate half and on wrong instructions are at work, with computed runs.
+use Rattle.std.proofs.Common.{◌≡◌, ◌⊎◌, inl, inr, ⊎_elim, ℕ, zero, suc, ◌+◌, ◌*◌, ◌<◌, ◌≤◌, true, false, List, [], ◌∷◌, length, Option, Some, None, is_some, refl, sym, ap, ◌∙◌, subst, arith}
+use Rattle.std.specs.Prelude.{pos, slice_index}
+use Rattle.std.proofs.lemmas.Bool.{false≢true}
 use Rattle.tests.specs.Elf.FileRead.{file_read}
 use Rattle.machine.specs.Loading.{loaded_file}
 use Rattle.machine.specs.Below.{gather}
@@ -14,12 +10,11 @@ use Rattle.machine.specs.Cells.{cell_among, number_among}
 use Rattle.machine.specs.Numbers.{bytes_of, number_bytes}
 use Rattle.machine.specs.Struck.{struck}
 use Rattle.machine.specs.declared.place.Place.TheVariants.{Reg, Word}
-use Rattle.machine.proofs.Lemmas.{AllSized, every_all, every_among, found_among, get_among, has_not, has_parts, none_among}
+use Rattle.machine.proofs.Lemmas.{AllSized, every_among, found_among, get_among, has_not, has_parts, none_among}
 use Rattle.qed_model.specs.declared.change.Change.{Change}
 use Rattle.qed_model.specs.Promise.Changed.{changed_run, with_changes}
-use Rattle.qed_model.specs.Weave.Sequences.{Block, End, Falls, Stops}
-use Rattle.qed_model.specs.Weave.Blocks.{AreBlocks, IsBlockOf, IsMarked, StopsAt, begins_at}
-use Rattle.qed_model.specs.Weave.SoundOptions.{AreSoundOptions}
+use Rattle.qed_model.specs.Weave.Sequences.{Stops}
+use Rattle.qed_model.specs.Weave.Blocks.{begins_at}
 use Rattle.qed_model.specs.Weave.OutputFile.{table_bytes}
 use Rattle.qed_model.specs.Weave.Placed.{placed, rows_from}
 use Rattle.qed_model.specs.Weave.LeanCode.{lean_items}
@@ -30,8 +25,8 @@ use Rattle.qed_model.specs.Promise.InStep.{SettlesWithin}
 use Rattle.qed_model.specs.Promise.Kept.{after_input, after_output, is_mapped}
 use Rattle.qed_model.specs.Promise.Landed.{Fires, placed_at}
 use Rattle.qed_model.proofs.ExampleCode as code
-use Rattle.qed_model.proofs.Lemmas.{defaults, covers_steady}
-use Rattle.weave_core.specs.World.{Program, Cell, allows, memory_of, start, zeros, Going, Ended, Fired, Ins, Addi, Beq, Bne, Ebreak, Known, ebreak, loaded, State, byte_at, class_of, get, HasAt, fetched_at, moved, next, next_pc, reg, run, set_reg, DISTANCE, CURSOR, SIGNATURE, execute, jumped, computed_value, value, holds}
+use Rattle.qed_model.proofs.Lemmas.{covers_steady}
+use Rattle.weave_core.specs.World.{Program, Cell, allows, memory_of, start, zeros, Going, Ended, Fired, Ins, Addi, Beq, Bne, Ebreak, Known, ebreak, loaded, State, byte_at, get, HasAt, fetched_at, moved, next, next_pc, reg, run, set_reg, DISTANCE, CURSOR, SIGNATURE, execute, jumped, computed_value, value, holds}
 use Rattle.weave_core.proofs.FileOfItems as of
 use Rattle.weave_core.proofs.FilesFit.{length-table}
 use Rattle.tests.proofs.Lemmas.{zeros_start}
@@ -42,89 +37,21 @@ use Rattle.lean.specs.Strayed.{IsInBlock, Strayed, Displaced, Adrift, Stopped, H
 use Rattle.lean.specs.Undisturbed.{Undisturbed, HasOriginals, ComesTo, FollowsTo, AllDuplicate, undisturbed_piece, undisturbed_ends, change_price, slipped_run, writes}
 use Rattle.lean.proofs.Weave.Tests as lean
 use Rattle.weave_examples.proofs.KnownFiles.{loop, loop_sound}
+use Rattle.weave_examples.proofs.LeanBlocks.{options, sound, are_lean}
 use Rattle.weave_examples.proofs.LoopExample.{loop_code, loop_known, loop_blocks, loop_each, loop_are}
 use Rattle.weave_examples.proofs.LoopKept.{loop_input, none, steady_none}
 use Rattle.weave_examples.proofs.ListedRuns.{found, go, go_loading, is_loading_run, is_simple_run, loading_run, run_is, state_of}
 use Rattle.weave_examples.proofs.ListedChanges.{changes_go}
 
 -- ---- the test
--- the options: those of no option beside the form, with short pieces
-abbrev pub options : Options
-options = record { inst_min = 4; inst_max = 16; round = 1; half = None; sweep = false; diverse = false; entries = entries.Reached; lean = Some 1200; land = true }
-
-sound : AreSoundOptions options
-sound = record { some = omega arith; room = omega arith; most = omega arith; visits = omega arith; few_visits = omega arith; half = tt; lean = (refl, omega arith, omega arith) }
-
-admitted : IsAdmitted loop options
-admitted = code.admitted loop 0x10000 loop_code loop_known refl options refl refl (omega arith) (omega arith) (omega arith) (omega arith)
-
--- no instruction is a JALR
-no_indirect : HasIndirect loop → ⊥
-no_indirect h =
-    let i = h.1.instruction in
-    let none : not (is_indirect (class_of i.kind)) ≡ true = code.passes_each (λ a j. not (is_indirect (class_of j.kind))) h.0 i 0x10000 loop_code refl (code.one_of loop 0x10000 loop_code loop_known h.0 i h.1.stands) in
-    false≢true (sym (not-true (is_indirect (class_of i.kind)) none) ∙ h.1.class)
-
--- ---- its leaders and blocks are those of the other form
-to_lean : (a : ℕ) → IsLeader loop defaults a → IsLeader loop options a
-to_lean a l = record { code = l.code; begins = by l.begins } where
-  by : Begins loop defaults a → Begins loop options a
-  by (Entry e) = Entry e
-  by (Target i s e) = Target i s e
-  by (After i s e) = After i s e
-  by (Named e) = Named e
-  by (Reached e h r) = absurd (no_indirect h)
-  by (Even e m) = absurd (false≢true e)
-
--- the entry alone is a multiple of 64
-to_other : (a : ℕ) → IsLeader loop options a → IsLeader loop defaults a
-to_other a l = record { code = l.code; begins = by l.begins } where
-  even : (not (a % 64 == 0) || (a == 0x10000)) ≡ true
-  even = code.tested loop 0x10000 loop_code loop_known (λ b. not (b % 64 == 0) || (b == 0x10000)) refl a l.code
-
-  by : Begins loop options a → Begins loop defaults a
-  by (Entry e) = Entry e
-  by (Target i s e) = Target i s e
-  by (After i s e) = After i s e
-  by (Named e) = Named e
-  by (Reached e h r) = absurd (no_indirect h)
-  by (Even e m) = Entry (⊎_elim (λ n. absurd (false≢true (sym (not-true (a % 64 == 0) n) ∙ eq-eqb (a % 64) 0 m))) (λ s. eqb-true a 0x10000 s) (or_cases (not (a % 64 == 0)) (a == 0x10000) even))
-
-block : (b : Block) → IsBlockOf loop defaults b → IsBlockOf loop options b
-block b (inr x) = absurd (no_indirect x.indirect)
-block b (inl x) = inl (record {
-  leader = to_lean b.start x.leader;
-  body = x.body;
-  stands = x.stands;
-  inside = λ k some few l. x.inside k some few (to_other _ l);
-  stops = stops b.end _ _ x.stops;
-  pieces = x.pieces;
-}) where
-  stops : (e : End) (n a : ℕ) → StopsAt loop defaults e n a → StopsAt loop options e n a
-  stops (Stops i) n a s = (s.0, s.1, ⊎_elim (λ z. inl z) (λ ne. inr (λ l. ne (to_other a l))) s.2)
-  stops Falls n a s = (s.0, ⊎_elim (λ l. inl (to_lean a l)) (λ no_code. inr no_code) s.1)
-
-unmarked : (b : Block) → b.reached ≡ false → IsMarked loop options b
-unmarked b e = (λ x. absurd (false≢true (sym e ∙ x)), λ m. absurd (no_indirect m.1))
-
-marks : (bs : List Block) → Every (λ (b : Block). b.reached ≡ false) bs → Every (IsMarked loop options) bs
-marks [] h = tt
-marks (b ∷ bs) h = (unmarked b h.0, marks bs h.1)
-
-are : AreBlocks loop options loop_blocks
-are =
-    let each = loop_each false in
-    let other = loop_are false in
-    record {
-      ascend = other.ascend;
-      each = every_all (IsBlockOf loop options) loop_blocks (block _ each.0, (block _ each.1.0, (block _ each.1.1.0, tt)));
-      marked = every_all (IsMarked loop options) loop_blocks (marks loop_blocks (refl, (refl, (refl, tt))));
-      leaders = λ a l. other.leaders a (to_other a l);
-      others = λ e h a c. absurd (no_indirect h);
-    }
-
 cut : AreLeanBlocks loop options 1200 loop_blocks
-cut = record { file = loop_sound; sound = sound; admitted = admitted; lean = refl; are = are }
+cut = record {
+  file = loop_sound;
+  sound = sound;
+  admitted = code.admitted loop 0x10000 loop_code loop_known refl options refl refl (omega arith) (omega arith) (omega arith) (omega arith);
+  lean = refl;
+  are = are_lean loop loop_code loop_known refl refl refl loop_blocks (loop_each false) (loop_are false) (refl, (refl, (refl, tt)));
+}
 
 -- ---- its output
 pub lean_words : (words : List ℕ) × IsLeanTest loop options 1200 loop_blocks words
@@ -137,7 +64,7 @@ abbrev pub new_code : List Ins
 new_code = placed false 0x13000 (lean_items loop options 1200 loop_blocks)
 
 stand : HasAt (fetched_at (memory_of lean_output.segments) lean_output.ranges) 0x13000 new_code
-stand = of.stand loop options sound loop_sound.loads admitted loop_blocks are false true (lean_items loop options 1200 loop_blocks) lean_words.0 (lean.are_items loop options 1200 loop_blocks cut lean_words.0 lean_words.1)
+stand = of.stand loop options sound loop_sound.loads cut.admitted loop_blocks cut.are false true (lean_items loop options 1200 loop_blocks) lean_words.0 (lean.are_items loop options 1200 loop_blocks cut lean_words.0 lean_words.1)
 
 -- a run from a state whose memory is that of the file
 runs : (n : ℕ) (s : State) → is_simple_run 0x13000 new_code n s ≡ true → s.memory ≡ memory_of lean_output.segments → s.ranges ≡ lean_output.ranges → run s n ≡ go 0x13000 new_code n s
@@ -215,7 +142,7 @@ unfolding run
 input_starts = refl
 
 originals : HasOriginals loop_input lean_output 0x10000 4096 (entry_in loop options 1200 loop_blocks) (start loop_input zeros) (state_of lean_output all_five 0x1314c Going)
-originals = let both = of.both loop options sound loop_sound.loads admitted loop_blocks are false true (lean_items loop options 1200 loop_blocks) lean_words.0 (lean.are_items loop options 1200 loop_blocks cut lean_words.0 lean_words.1) none (λ e a h. absurd (false≢true h)) in record {
+originals = let both = of.both loop options sound loop_sound.loads cut.admitted loop_blocks cut.are false true (lean_items loop options 1200 loop_blocks) lean_words.0 (lean.are_items loop options 1200 loop_blocks cut lean_words.0 lean_words.1) none (λ e a h. absurd (false≢true h)) in record {
   going = refl;
   here = refl;
   originals = low;
@@ -283,7 +210,7 @@ first_fires = ap (λ s. (run (moved (set_reg 1 7 s.regs) (next_pc s) s) 42).outc
 -- ---- changes of the duplicate half, at any steps
 -- the new code ends below 0x14000
 size : length (bytes_of lean_words.0) ≡ 608
-size = of.length-code loop options sound loop_sound.loads admitted loop_blocks are false true (lean_items loop options 1200 loop_blocks) lean_words.0 (lean.are_items loop options 1200 loop_blocks cut lean_words.0 lean_words.1)
+size = of.length-code loop options sound loop_sound.loads cut.admitted loop_blocks cut.are false true (lean_items loop options 1200 loop_blocks) lean_words.0 (lean.are_items loop options 1200 loop_blocks cut lean_words.0 lean_words.1)
 
 table_size : length (table_bytes 4096 (rows_from false 0x13000 (lean_items loop options 1200 loop_blocks))) ≡ 16
 table_size = length-table 4096 (rows_from false 0x13000 (lean_items loop options 1200 loop_blocks))

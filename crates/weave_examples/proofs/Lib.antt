@@ -9,7 +9,9 @@ pub mod LoopExample
 pub mod LoopKept
 mod LoopCaught
 mod LoopClean
+pub mod LeanBlocks
 mod LeanExample
 pub mod StoreExample
 pub mod StoreKept
-mod StoreCaught
+pub mod StoreCaught
+mod StoreLean

@@ -1,4 +1,5 @@
--- The promise on changes at work, on a known test with a loop: changes of x5, with computed runs.
+-- The promise on changes at work, on a known test with a loop: changes of x5, and a wrong result,
+-- comparison and branch, with computed runs.
 use Rattle.std.proofs.Common.{◌≡◌, inl, ℕ, ◌+◌, true, false, List, [], ◌∷◌, refl, ap, ◌∙◌, arith}
 use Rattle.std.specs.Prelude.{pos}
 use Rattle.qed_model.specs.declared.change.Change.{Change}

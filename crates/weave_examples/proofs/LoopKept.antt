@@ -119,10 +119,10 @@ landed_wrong =
 abbrev pub none : ℕ → Bool
 none a = false
 
-ended_going : Ended ≡ Going → ⊥
+pub ended_going : Ended ≡ Going → ⊥
 ended_going e = absurd (cc)
 
-no_jump : (s : State) (i : Ins) → next s ≡ Known i → (class_of i.kind ≡ class.JumpReg → ⊥) → LeadsToReached none s
+pub no_jump : (s : State) (i : Ins) → next s ≡ Known i → (class_of i.kind ≡ class.JumpReg → ⊥) → LeadsToReached none s
 no_jump s i here other = λ j going there jumps.
     let both : Known i ≡ Known j = sym here ∙ there in
     let same : i ≡ j = cc in

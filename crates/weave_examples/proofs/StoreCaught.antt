@@ -1,14 +1,15 @@
 -- The promises on changes hold of a known file, a test with a data word: all their premises are met.
-use Rattle.std.proofs.Common.{◌≡◌, ℕ, ◌+◌, ◌-◌, ◌%◌, ◌≤◌, true, false, cond, ◌&&◌, [], ◌∷◌, refl, sym, ap, ◌∙◌, subst, arith, inl, List, Some}
+-- So are those on a wrong store.
+use Rattle.std.proofs.Common.{◌≡◌, ⊎_elim, ℕ, zero, suc, ◌+◌, ◌-◌, ◌%◌, ◌<◌, ◌≤◌, true, false, cond, ◌&&◌, [], ◌∷◌, refl, sym, ap, ◌∙◌, subst, arith, inl, List, Some}
 use Rattle.std.specs.Prelude.{◌==◌}
-use Rattle.std.proofs.lemmas.Bool.{leb-true}
+use Rattle.std.proofs.lemmas.Bool.{cases_lt, leb-true}
 use Rattle.machine.specs.declared.outcome.Cause.TheVariants as cause
 use Rattle.machine.specs.Below.{each}
 use Rattle.machine.specs.Cells.{number_among}
 use Rattle.machine.specs.Loading.{load_segments}
 use Rattle.weave_core.specs.World.{Outcome, Going, Ended, Memory, number, grants, put, memory_of, start, zeros, State, Ins, Known, Refused, HasAt, known_or, next, next_pc, place, stored, in_range, fetched_at, trapped, execute, computed_value, step, run, value, holds, jumped, loaded}
 use Rattle.machine.specs.Table.{decode_of}
-use Rattle.qed_model.specs.Promise.Kept.{after_input, NotTrapped, is_trapped, after_output, any_address}
+use Rattle.qed_model.specs.Promise.Kept.{LeadsToReached, Steady, after_input, NotTrapped, is_trapped, after_output, any_address}
 use Rattle.machine.proofs.Lemmas.{number-among, grants-put, number-put_apart, apart_before, AllSized, step-known, run-more}
 use Rattle.tests.proofs.Lemmas.{all_sized_among, zeros_start}
 use Rattle.tests.specs.Elf.Sound.{AreLoads}
@@ -26,6 +27,7 @@ use Rattle.lockstep.proofs.Lemmas.{instruction_faults_are_caught, tests_caught, 
 use Rattle.weave_examples.proofs.KnownFiles.{store, store_sound}
 use Rattle.weave_examples.proofs.StoreExample.{store_code, store_known, store_admitted, lui, ld, add, sd, ecall, store_plan, store_told, store_blocks, store_are}
 use Rattle.weave_examples.proofs.ListedRuns.{found, grants_among, has_code, loading_run, state_of}
+use Rattle.weave_examples.proofs.LoopKept.{none, no_jump, ended_going}
 use Rattle.weave_examples.proofs.StoreKept.{store_input, store_words, swept_words, store_output, swept_output}
 
 -- ---- the run of a known test with a data word, computed step by step: it loads 5, and stores 10 there
@@ -99,15 +101,31 @@ input_end : after_input store_input 5 ≡ at 0x20000 5 10 0x10010 (put m 0x20000
 unfolding run
 input_end = ap (λ s. run s 4) first_step ∙ ap (λ s. run s 3) second_step ∙ ap (λ s. run s 2) third_step ∙ ap (λ s. run s 1) fourth_step ∙ fifth_step
 
+store_stays : (n : ℕ) → 5 ≤ n → after_input store_input n ≡ at 0x20000 5 10 0x10010 (put m 0x20000 8 10) Ended
+store_stays n l =
+    let sum : 5 + (n - 5) ≡ n = omega (arith, l) in
+    ap (after_input store_input) (sym sum) ∙ run-more (start store_input zeros) 5 (n - 5) ∙ run-ended (n - 5) (after_input store_input 5) (ap (λ s. s.outcome) input_end) ∙ input_end
+
 -- the run never traps
 pub store_calm : (n : ℕ) → 5 ≤ n → NotTrapped (after_input store_input n)
-store_calm n l =
-    let sum : 5 + (n - 5) ≡ n = omega (arith, l) in
-    let stays : after_input store_input n ≡ after_input store_input 5 = ap (after_input store_input) (sym sum) ∙ run-more (start store_input zeros) 5 (n - 5) ∙ run-ended (n - 5) (after_input store_input 5) (ap (λ s. s.outcome) input_end) in
-    ap (λ s. is_trapped s.outcome) (stays ∙ input_end)
+store_calm n l = ap (λ s. is_trapped s.outcome) (store_stays n l)
+
+-- nor makes an indirect jump
+steps_lead : (k : ℕ) → k < 5 → LeadsToReached none (after_input store_input k)
+unfolding run
+steps_lead zero l = no_jump (start store_input zeros) lui code.0 (λ e. absurd (cc))
+steps_lead (suc zero) l = no_jump (after_input store_input 1) ld (ap next first_step ∙ code.1.0) (λ e. absurd (cc))
+steps_lead (suc (suc zero)) l = no_jump (after_input store_input 2) add (ap (λ s. next (step s)) first_step ∙ ap next second_step ∙ code.1.1.0) (λ e. absurd (cc))
+steps_lead (suc (suc (suc zero))) l = no_jump (after_input store_input 3) sd (ap (λ s. next (step (step s))) first_step ∙ ap (λ s. next (step s)) second_step ∙ ap next third_step ∙ code.1.1.1.0) (λ e. absurd (cc))
+steps_lead (suc (suc (suc (suc zero)))) l =
+    no_jump (after_input store_input 4) ecall (ap (λ s. next (step (step (step s)))) first_step ∙ ap (λ s. next (step (step s))) second_step ∙ ap (λ s. next (step s)) third_step ∙ ap next fourth_step ∙ fetch_kept ∙ code.1.1.1.1.0) (λ e. absurd (cc))
+steps_lead (suc (suc (suc (suc (suc k))))) l = absurd (omega (arith, l))
+
+pub store_steady : (n : ℕ) → 5 ≤ n → Steady store_input none n
+store_steady n l = record { no_trap = store_calm n l; leads = λ k h. ⊎_elim (λ early. steps_lead k early) (λ late i going. absurd (ended_going (sym (ap (λ s. s.outcome) (store_stays k late)) ∙ going))) (cases_lt k 5) }
 
 -- its data word
-abbrev spans : List (ℕ × ℕ)
+abbrev pub spans : List (ℕ × ℕ)
 spans = (0x20000, 0x20008) ∷ []
 
 -- a change of a register is caught within 272 steps, one of the data word within 392

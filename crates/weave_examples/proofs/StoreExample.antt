@@ -5,9 +5,10 @@ use Rattle.std.specs.Prelude.{pos}
 use Rattle.qed_model.specs.declared.plan.Plan.{Plan}
 use Rattle.machine.specs.Table.{Lui, Ld, Add, Sd, Ecall, Ins, ins, ins_of, decode_of}
 use Rattle.machine.specs.Cells.{number_among}
+use Rattle.machine.specs.Members.{Every}
 use Rattle.tests.specs.Admission.Refusals.{IsAdmitted}
 use Rattle.qed_model.specs.Weave.Sequences.{Block, Stops}
-use Rattle.qed_model.specs.Weave.Blocks.{AreBlocks}
+use Rattle.qed_model.specs.Weave.Blocks.{AreBlocks, IsBlockOf}
 use Rattle.qed_model.specs.Weave.Woven.{compared, IsToldOf}
 use Rattle.qed_model.proofs.ExampleCode as code
 use Rattle.qed_model.proofs.ExampleBlocks as made
@@ -48,8 +49,11 @@ store_swept_admitted = code.admitted store 0x10000 store_code store_known refl s
 abbrev pub store_blocks : List Block
 store_blocks = record { start = 0x10000; body = (lui ∷ []) ∷ (ld ∷ add ∷ []) ∷ (sd ∷ []) ∷ []; end = Stops ecall; reached = false } ∷ []
 
+pub store_each : (sweep : Bool) → Every (IsBlockOf store (options sweep)) store_blocks
+store_each sweep = (inl (made.stopping store 0x10000 store_code store_known (options sweep) refl refl [] ((lui ∷ []) ∷ (ld ∷ add ∷ []) ∷ (sd ∷ []) ∷ []) ecall [] refl refl refl), tt)
+
 pub store_are : (sweep : Bool) → AreBlocks store (options sweep) store_blocks
-store_are sweep = made.are_blocks store 0x10000 store_code store_known (options sweep) refl refl store_blocks refl refl refl (inl (made.stopping store 0x10000 store_code store_known (options sweep) refl refl [] ((lui ∷ []) ∷ (ld ∷ add ∷ []) ∷ (sd ∷ []) ∷ []) ecall [] refl refl refl), tt)
+store_are sweep = made.are_blocks store 0x10000 store_code store_known (options sweep) refl refl store_blocks refl refl refl (store_each sweep)
 
 -- ---- its plan
 abbrev pub store_plan : Plan
