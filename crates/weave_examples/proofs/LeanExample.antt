@@ -1,5 +1,5 @@
--- The known test with a loop in the lean form, with entries that test the signature: it has words, and its promises on
--- jumps that land wrong, on x14, on the duplicate half and on wrong instructions are at work, with computed runs.
+-- The known test with a loop in the lean form, with entries that test the signature: it has words. Its
+-- promises on jumps that land wrong, x14, the duplicate half and wrong instructions are at work, with computed runs.
 use Rattle.std.proofs.Common.{◌≡◌, ◌⊎◌, inl, inr, ⊎_elim, ℕ, zero, suc, ◌+◌, ◌*◌, ◌<◌, ◌≤◌, true, false, List, [], ◌∷◌, length, Option, Some, None, is_some, refl, sym, ap, ◌∙◌, subst, arith}
 use Rattle.std.specs.Prelude.{pos, slice_index}
 use Rattle.std.proofs.lemmas.Bool.{false≢true}
