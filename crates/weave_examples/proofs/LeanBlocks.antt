@@ -8,13 +8,13 @@ use Rattle.tests.specs.declared.options.Entries.TheVariants as entries
 use Rattle.tests.specs.Admission.DataRanges.{ElfFile}
 use Rattle.tests.specs.Admission.Leaders.{HasIndirect, is_indirect, IsLeader, Begins, Entry, Target, After, Named, Reached, Even}
 use Rattle.machine.specs.Members.{Every}
-use Rattle.machine.proofs.Lemmas.{every_all}
 use Rattle.qed_model.specs.Weave.Sequences.{Block, End, Falls, Stops}
 use Rattle.qed_model.specs.Weave.Blocks.{AreBlocks, IsBlockOf, IsMarked, StopsAt}
 use Rattle.qed_model.specs.Weave.SoundOptions.{AreSoundOptions}
 use Rattle.qed_model.proofs.ExampleCode as code
 use Rattle.qed_model.proofs.Lemmas.{IsCodeOf, defaults}
 use Rattle.weave_core.specs.World.{Ins, class_of}
+use Rattle.weave_examples.proofs.ListedRuns.{every_all}
 
 -- the options: those of no option beside the form, with short pieces
 abbrev pub options : Options

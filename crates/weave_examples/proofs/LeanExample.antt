@@ -10,7 +10,6 @@ use Rattle.machine.specs.Cells.{cell_among, number_among}
 use Rattle.machine.specs.Numbers.{bytes_of, number_bytes}
 use Rattle.machine.specs.Struck.{struck}
 use Rattle.machine.specs.declared.place.Place.TheVariants.{Reg, Word}
-use Rattle.machine.proofs.Lemmas.{AllSized, every_among, found_among, get_among, has_not, has_parts, none_among}
 use Rattle.qed_model.specs.declared.change.Change.{Change}
 use Rattle.qed_model.specs.Promise.Changed.{changed_run, with_changes}
 use Rattle.qed_model.specs.Weave.Sequences.{Stops}
@@ -25,11 +24,9 @@ use Rattle.qed_model.specs.Promise.InStep.{SettlesWithin}
 use Rattle.qed_model.specs.Promise.Kept.{after_input, after_output, is_mapped}
 use Rattle.qed_model.specs.Promise.Landed.{Fires, placed_at}
 use Rattle.qed_model.proofs.ExampleCode as code
-use Rattle.qed_model.proofs.Lemmas.{covers_steady}
 use Rattle.weave_core.specs.World.{Program, Cell, allows, memory_of, start, zeros, Going, Ended, Fired, Ins, Addi, Beq, Bne, Ebreak, Known, ebreak, loaded, State, byte_at, get, HasAt, fetched_at, moved, next, next_pc, reg, run, set_reg, DISTANCE, CURSOR, SIGNATURE, execute, jumped, computed_value, value, holds}
 use Rattle.weave_core.proofs.FileOfItems as of
 use Rattle.weave_core.proofs.FilesFit.{length-table}
-use Rattle.tests.proofs.Lemmas.{zeros_start}
 use Rattle.lean.specs.Tests.{AreLeanBlocks, IsLeanTest, lean_file}
 use Rattle.machine.specs.Members.{Among, Every}
 use Rattle.machine.specs.Table.{Ecall, ins}
@@ -40,7 +37,7 @@ use Rattle.weave_examples.proofs.KnownFiles.{loop, loop_sound}
 use Rattle.weave_examples.proofs.LeanBlocks.{options, sound, are_lean}
 use Rattle.weave_examples.proofs.LoopExample.{loop_code, loop_known, loop_blocks, loop_each, loop_are}
 use Rattle.weave_examples.proofs.LoopKept.{loop_input, none, steady_none}
-use Rattle.weave_examples.proofs.ListedRuns.{found, go, go_loading, is_loading_run, is_simple_run, loading_run, run_is, state_of}
+use Rattle.weave_examples.proofs.ListedRuns.{AllSized, every_among, found_among, get_among, has_not, has_parts, none_among, covers_steady, zeros_start, found, go, go_loading, is_loading_run, is_simple_run, loading_run, run_is, state_of}
 use Rattle.weave_examples.proofs.ListedChanges.{changes_go}
 
 -- ---- the test

@@ -10,8 +10,7 @@ use Rattle.qed_model.specs.declared.change.Change.{Change}
 use Rattle.weave_core.specs.World.{Program, Memory, memory_of, start, zeros, Outcome, Going, Ins, State, Known, HasAt, fetched_at, put, step, run, LAST_ORIGINAL}
 use Rattle.qed_model.specs.Promise.Changed.{changed, changed_as, with_changes, changed_run}
 use Rattle.qed_model.specs.Promise.Closed.{is_closed, uses, guards_other, guard_bytes, is_checked}
-use Rattle.machine.proofs.Lemmas.{run-last, grants-put, number-put_apart}
-use Rattle.weave_examples.proofs.ListedRuns.{instruction_at, is_going, is_simple_at, is_simple_run, go, go_at, found, step_is, run_is, state_of}
+use Rattle.weave_examples.proofs.ListedRuns.{run-last, grants-put, number-put_apart, instruction_at, is_going, is_simple_at, is_simple_run, go, go_at, found, step_is, run_is, state_of}
 use Rattle.lockstep.proofs.Lemmas.{changed_later}
 
 -- before its step the changed run is the run without it

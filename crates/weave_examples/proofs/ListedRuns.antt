@@ -8,9 +8,9 @@ use Rattle.machine.specs.declared.outcome.Cause.TheVariants as cause
 use Rattle.machine.specs.Cells.{cell_among, number_among}
 use Rattle.weave_core.specs.World.{LoadSegment, Flags, Cell, wrap, allows, grants, number, place, width_of, loaded, Outcome, Going, Memory, holds, set_reg, class_of, Class, Ins, State, reg, moved, imm, next_pc, Fetched, Known, HasAt, fetched_at, next, jumped, execute, trapped, step, run, Program, memory_of}
 use Rattle.machine.specs.Loading.{ElfFile, loaded_file}
-use Rattle.qed_model.proofs.Lemmas.{StandFrom}
-use Rattle.tests.proofs.Lemmas.{IsShapely, known_instruction}
-use Rattle.machine.proofs.Lemmas.{AllSized, get_among, number-among, step-class, step-known, step-load}
+pub use Rattle.qed_model.proofs.Lemmas.{StandFrom, covers_steady}
+pub use Rattle.tests.proofs.Lemmas.{IsShapely, known_instruction, zeros_start}
+pub use Rattle.machine.proofs.Lemmas.{AllSized, every_all, every_among, found_among, get_among, grants-put, has_not, has_parts, none_among, number-among, number-put_apart, run-last, step-class, step-known, step-load}
 
 -- the instruction at an address, among some that stand one after another
 abbrev pub instruction_at : ℕ → List Ins → ℕ → Option Ins

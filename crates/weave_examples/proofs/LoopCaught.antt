@@ -15,8 +15,7 @@ use Rattle.qed_model.specs.Promise.Landed.{Fires}
 use Rattle.qed_model.proofs.Lemmas.{defaults, steady_any, any_reached, covers_steady}
 use Rattle.weave_examples.proofs.KnownFiles.{loop}
 use Rattle.weave_examples.proofs.LoopExample.{loop_plan, loop_told, loop_blocks}
-use Rattle.tests.proofs.Lemmas.{zeros_start}
-use Rattle.weave_examples.proofs.ListedRuns.{found, run_is, state_of}
+use Rattle.weave_examples.proofs.ListedRuns.{zeros_start, found, run_is, state_of}
 use Rattle.weave_examples.proofs.LoopKept.{loop_words, loop_input, loop_output, loop_new_code, loop_stand, output_run, input_ended, none, none_reached, steady_none}
 use Rattle.weave_examples.proofs.ListedChanges.{changed_go, closed_there}
 use Rattle.lockstep.proofs.Lemmas.{tests_caught, tests_turned, instruction_faults_are_caught}

@@ -17,8 +17,7 @@ use Rattle.weave_examples.proofs.KnownFiles.{loop, loop_sound}
 use Rattle.weave_examples.proofs.LoopExample.{loop_swept_admitted, loop_blocks, loop_are}
 use Rattle.machine.proofs.Lemmas.{run-more}
 use Rattle.weave_core.specs.Tests.{IsWovenTest}
-use Rattle.tests.proofs.Lemmas.{zeros_start}
-use Rattle.weave_examples.proofs.ListedRuns.{is_simple_run, go, run_is}
+use Rattle.weave_examples.proofs.ListedRuns.{zeros_start, is_simple_run, go, run_is}
 use Rattle.weave_examples.proofs.LoopKept.{loop_loads, loop_input, input_ended}
 use Rattle.weave_core.proofs.TestKept as kept
 use Rattle.weave_core.proofs.Lemmas.{tests_have_words, run-ended}

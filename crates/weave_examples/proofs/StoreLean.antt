@@ -6,7 +6,6 @@ use Rattle.machine.specs.Below.{each, gather}
 use Rattle.machine.specs.Cells.{number_among}
 use Rattle.machine.specs.Loading.{loaded_file}
 use Rattle.machine.specs.Numbers.{number_bytes}
-use Rattle.machine.proofs.Lemmas.{AllSized}
 use Rattle.qed_model.specs.Promise.Changed.{IsDataWord}
 use Rattle.qed_model.specs.Promise.Faults.{FaultsFound, stores, word_around}
 use Rattle.qed_model.specs.Promise.InStep.{SettlesWithin}
@@ -15,15 +14,13 @@ use Rattle.qed_model.specs.Weave.LeanBounds.{lean_bounds}
 use Rattle.qed_model.specs.Weave.LeanCode.{lean_items}
 use Rattle.qed_model.specs.Weave.Placed.{placed}
 use Rattle.qed_model.proofs.ExampleCode as code
-use Rattle.qed_model.proofs.Lemmas.{covers_steady}
 use Rattle.weave_core.specs.World.{Program, memory_of, start, zeros, Going, Ins, Known, State, HasAt, fetched_at, next, next_pc, place, put, run, stored, execute, jumped, computed_value, value, holds, loaded}
 use Rattle.weave_core.proofs.FileOfItems as of
-use Rattle.tests.proofs.Lemmas.{zeros_start}
 use Rattle.lean.specs.Tests.{AreLeanBlocks, IsLeanTest, lean_file}
 use Rattle.lean.proofs.Weave.Tests as lean
 use Rattle.weave_examples.proofs.KnownFiles.{store, store_sound}
 use Rattle.weave_examples.proofs.LeanBlocks.{options, sound, are_lean}
-use Rattle.weave_examples.proofs.ListedRuns.{found, loading_run, state_of}
+use Rattle.weave_examples.proofs.ListedRuns.{AllSized, covers_steady, zeros_start, found, loading_run, state_of}
 use Rattle.weave_examples.proofs.LoopKept.{none}
 use Rattle.weave_examples.proofs.StoreCaught.{spans, store_steady}
 use Rattle.weave_examples.proofs.StoreExample.{store_code, store_known, sd, store_blocks, store_each, store_are}
