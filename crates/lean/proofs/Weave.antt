@@ -20,11 +20,17 @@ pub mod Words
 pub mod Plan
 pub mod Lands
 pub mod Promise
+pub mod Beyond
+pub mod Lost
+pub mod Skipped
 pub mod Landed
 pub mod Carry
 pub mod Half
 pub mod Robust
 pub mod Trail
+pub mod SlipTrail
+pub mod EndsRight
+pub mod OtherSlips
 pub mod DuplicateSlips
 pub mod RobustStart
 pub mod RobustPiece
@@ -32,6 +38,7 @@ pub mod RobustRun
 pub mod RobustEnd
 pub mod RobustLeave
 pub mod RobustEnter
+pub mod RobustLooks
 pub mod Drift
 pub mod Offset
 pub mod PieceCosts

@@ -1,6 +1,6 @@
 -- The duplicate half does not reach the original half: from the entry of a block the original half alone has to be right.
 use Rattle.std.specs.Prelude.{◌≡◌, ◌↔◌, ℕ, suc, cond, nat_le, ◌-◌, ◌+◌, ◌*◌, ◌^◌, ◌<◌, ◌≤◌, ◌⊎◌, Bool, true, false, List, [], ◌∷◌, length}
-use Rattle.rv_isa.specs.declared.profile.TheConstants.{LAST_ORIGINAL, PAIR_DISTANCE, DISTANCE, CURSOR, SIGNATURE}
+use Rattle.rv_isa.specs.declared.profile.TheConstants.{LAST_ORIGINAL, PAIR_DISTANCE, DISTANCE, CURSOR, SIGNATURE, TEMPORARY, SPARE}
 use Rattle.machine.specs.declared.outcome.Outcome.TheVariants.{Going, Ended}
 use Rattle.machine.specs.declared.place.Place.{Place}
 use Rattle.machine.specs.declared.place.Place.TheVariants.{Reg, Word}
@@ -8,16 +8,16 @@ use Rattle.rv_isa.specs.declared.class.Class.TheVariants as class
 use Rattle.machine.specs.Values.{width_of}
 use Rattle.machine.specs.Memory.{get, put, byte_at, flags_at, allows}
 use Rattle.machine.specs.Program.{Program, memory_of, start, AreStartRegs}
-use Rattle.machine.specs.Step.{State, Ins, Known, class_of, place, next, next_pc, moved, stored, reg, run, fetched_at}
+use Rattle.machine.specs.Step.{State, Ins, Known, class_of, place, next, next_pc, moved, stored, reg, set_reg, run, fetched_at}
 use Rattle.qed_model.specs.declared.change.Change.{Change}
 use Rattle.qed_model.specs.Promise.Changed.{changed_run}
-use Rattle.qed_model.specs.Promise.Faults.{GivesAny}
+use Rattle.qed_model.specs.Promise.Faults.{GivesAny, misled}
 use Rattle.qed_model.specs.Promise.Kept.{after_input, after_output, is_mapped, Halves, Steady}
 use Rattle.qed_model.specs.Weave.Blocks.{begins_at}
 use Rattle.qed_model.specs.Weave.LeanBounds.{entry_steps, call_steps}
 use Rattle.qed_model.specs.Weave.Sequences.{Block}
 use Rattle.tests.specs.Admission.DataRanges.{word_count}
-use Rattle.lean.specs.Strayed.{IsOver}
+use Rattle.lean.specs.Strayed.{IsOver, Stopped}
 
 -- The output's state u goes on at the entry of the block where the input's state s stands. Its registers x1 to x13 and
 -- the bytes that the input maps are those of s. In x16 is the pc of s, and in x14 the distance of the halves. Code,
@@ -81,6 +81,34 @@ pub data SlipsDuplicate (g : Program) (base distance : ℕ) (i : Ins) (u v : Sta
       → v ≡ stored (put u.memory a (width_of i.kind) x) (next_pc u) u → SlipsDuplicate g base distance i u v
   leaves : class_of i.kind ≡ class.Store → InDuplicate g base distance (place i u) (width_of i.kind) → v ≡ moved u.regs (next_pc u) u → SlipsDuplicate g base distance i u v
 
+-- ---- slips of other instructions that are none of the test's own
+-- x14, x16, x30 and x31
+abbrev pub IsOutputReg : ℕ → Type 0
+IsOutputReg r = (r ≡ DISTANCE) ⊎ ((r ≡ SIGNATURE) ⊎ ((r ≡ TEMPORARY) ⊎ (r ≡ SPARE)))
+
+-- it computes or loads such a register
+abbrev pub WritesOutput : Ins → Type 0
+WritesOutput i = ((class_of i.kind ≡ class.Compute) ⊎ (class_of i.kind ≡ class.Load)) × IsOutputReg i.rd
+
+-- it is a branch, a jump, or the end of the test
+abbrev pub Steers : Ins → Type 0
+Steers i = (class_of i.kind ≡ class.Branch) ⊎ ((class_of i.kind ≡ class.Jump) ⊎ ((class_of i.kind ≡ class.JumpReg) ⊎ (class_of i.kind ≡ class.End)))
+
+-- v is the state behind the instruction i of u if it goes wrong once: it gives such a register any number, is a branch that goes
+-- the other way, or is skipped
+pub data SlipsOther (i : Ins) (u v : State) : Type 0 where
+  gives : (x : ℕ) → WritesOutput i → x < 2 ^ 64 → v ≡ moved (set_reg i.rd x u.regs) (next_pc u) u → SlipsOther i u v
+  turns : class_of i.kind ≡ class.Branch → v ≡ misled i u → SlipsOther i u v
+  skips : WritesOutput i ⊎ Steers i → v ≡ moved u.regs (next_pc u) u → SlipsOther i u v
+
+-- the most steps of a run that is soon over behind a slip: those of three rounds of the count, and 80
+abbrev pub slip_steps : ℕ
+slip_steps = 3 * 2047 + 80
+
+-- the run has not fired or trapped nine steps later
+abbrev pub GoesOn : Program → List ℕ → ℕ → Type 0
+GoesOn g regs m = (k : ℕ) → k ≤ 9 → IsOver (after_output g regs (m + k)).outcome → ⊥
+
 -- the run up to its step n, and then the one from v on
 abbrev pub slipped_run : Program → List ℕ → ℕ → State → ℕ → State
 slipped_run g regs n v j = cond (nat_le j n) (after_output g regs j) (run v (j - (n + 1)))
@@ -94,6 +122,12 @@ pub record FollowsTo (f : Program) (n first bound : ℕ) (states : ℕ → State
   pub grows : (k : ℕ) → k < n → at k < at (suc k)
   pub within : (k : ℕ) → k ≤ n → at k ≤ first + k * bound
   pub values : (k : ℕ) → k ≤ n → IsOver (states (at k)).outcome ⊎ (Halves f (after_input f k) (states (at k)) × (((states (at k)).outcome ≡ Ended) ↔ ((after_input f k).outcome ≡ Ended)))
+
+-- the input has ended, and the original half of a state has its values
+pub record EndsRight (f : Program) (u : State) : Type 0 where
+  pub steps : ℕ
+  pub ended : (after_input f steps).outcome ≡ Ended
+  pub halves : Halves f (after_input f steps) u
 
 -- the most steps that a change costs, where the output maps no byte from `top` on: those of a step of the input and of the end,
 -- and those of a sweep that goes on until it traps
@@ -115,3 +149,14 @@ pub record Undisturbed (f g : Program) (reached : ℕ → Bool) (base distance :
       (regs : List ℕ) (m n top : ℕ) (i : Ins) (v : State) → AreStartRegs regs → (after_output g regs m).outcome ≡ Going → next (after_output g regs m) ≡ Known i → (after_output g regs (m + 1)).outcome ≡ Going
       → SlipsDuplicate g base distance i (after_output g regs m) v → ((q : ℕ) → top ≤ q → is_mapped g q ≡ false) → top + 8 ≤ 2 ^ 64
       → Steady f reached n → FollowsTo f n (31 + bound + ends + change_price bound ends top) bound (slipped_run g regs m v)
+  -- so it does, or is over within `slip_steps`, if another one goes wrong and the run without the slip goes on
+  pub others :
+      (regs : List ℕ) (m n top : ℕ) (i : Ins) (v : State) → AreStartRegs regs → (after_output g regs m).outcome ≡ Going → next (after_output g regs m) ≡ Known i → SlipsOther i (after_output g regs m) v
+      → GoesOn g regs m → ((q : ℕ) → top ≤ q → is_mapped g q ≡ false) → top + 8 ≤ 2 ^ 64
+      → Steady f reached n → Stopped slip_steps v ⊎ FollowsTo f n (31 + bound + ends + change_price bound ends top) bound (slipped_run g regs m v)
+  -- so if the input is steady for ever, a run with either slip that ends has its values
+  pub ends_right :
+      (regs : List ℕ) (m j top : ℕ) (i : Ins) (v : State) → AreStartRegs regs → (after_output g regs m).outcome ≡ Going → next (after_output g regs m) ≡ Known i
+      → SlipsDuplicate g base distance i (after_output g regs m) v ⊎ SlipsOther i (after_output g regs m) v
+      → GoesOn g regs m → ((q : ℕ) → top ≤ q → is_mapped g q ≡ false) → top + 8 ≤ 2 ^ 64
+      → ((k : ℕ) → Steady f reached k) → (run v j).outcome ≡ Ended → EndsRight f (run v j)

@@ -249,12 +249,11 @@ module _ (w : World) (free : ℕ → Bool) (stores : Bool) (D : State → Type 0
   cost_behind (Constant q v ∷ xs) = omega arith
   cost_behind (Go t ∷ xs) = omega arith
 
-  -- a branch over a word: its step leads to it, or behind it
-  pub skipped : (u : State) (i : Ins) (xs rest : List Item) → D u → Reads false w.code w.entry u.pc (Plain i ∷ xs ++ rest) → Skips i xs → At (xs ++ rest) (step u) ⊎ At (behind xs ++ rest) (step u)
-  unfolding execute jumped
-  skipped u i xs rest a r s = by (holds i.kind (reg u i.rs1) (reg u i.rs2)) (step-class u i class.Branch (keeper.over u a).going (known_at w.code u i (keeper.over u a) r.0) s.0) where
-    there : (p : ℕ) → step u ≡ moved u.regs p u → D (step u) × ((step u).pc ≡ p)
-    there p e = (subst D (sym e) (keeper.goes u p a), ap (λ z. z.pc) e)
+  -- a branch over a word: where it goes on, and where it jumps
+  pub both_ways : (u : State) (i : Ins) (xs rest : List Item) → D u → Reads false w.code w.entry u.pc (Plain i ∷ xs ++ rest) → Skips i xs → At (xs ++ rest) (moved u.regs (u.pc + 4) u) × At (behind xs ++ rest) (jumped u.regs (target i u.pc) u)
+  both_ways u i xs rest a r s = ((keeper.goes u (u.pc + 4) a, r.1), subst (At (behind xs ++ rest)) (sym (ap (λ p. jumped u.regs p u) goal ∙ jumped_to u.regs there u grain)) (keeper.goes u there a, reads_behind (u.pc + 4) xs rest s.2 r.1)) where
+    there : ℕ
+    there = u.pc + 4 + first_size xs
 
     size_few : (xs : List Item) → (first_size xs ≤ 8) × (first_size xs % 4 ≡ 0)
     size_few [] = (omega arith, refl)
@@ -272,13 +271,16 @@ module _ (w : World) (free : ℕ → Bool) (stores : Bool) (D : State → Type 0
     grain : (u.pc + 4 + first_size xs) % 4 ≡ 0
     grain = let g = w.grain u.pc i r.0 in let few = size_few xs in omega (arith, g, few.1)
 
-    by : (b : Bool) → step u ≡ cond b (jumped u.regs ((u.pc + imm i) % 2 ^ 64) u) (moved u.regs (next_pc u) u) → At (xs ++ rest) (step u) ⊎ At (behind xs ++ rest) (step u)
-    by true e =
-        let g = there (u.pc + 4 + first_size xs) (e ∙ ap (λ p. jumped u.regs p u) goal ∙ jumped_to u.regs (u.pc + 4 + first_size xs) u grain) in
-        inr (g.0, subst (λ p. Reads false w.code w.entry p (behind xs ++ rest)) (sym g.1) (reads_behind (u.pc + 4) xs rest s.2 r.1))
-    by false e =
-        let g = there (u.pc + 4) (e ∙ ap (λ p. moved u.regs p u) (pc_four w u i r.0)) in
-        inl (g.0, subst (λ p. Reads false w.code w.entry p (xs ++ rest)) (sym g.1) r.1)
+  -- its step leads to it, or behind it
+  pub skipped : (u : State) (i : Ins) (xs rest : List Item) → D u → Reads false w.code w.entry u.pc (Plain i ∷ xs ++ rest) → Skips i xs → At (xs ++ rest) (step u) ⊎ At (behind xs ++ rest) (step u)
+  unfolding execute
+  skipped u i xs rest a r s = by (holds i.kind (reg u i.rs1) (reg u i.rs2)) (step-class u i class.Branch (keeper.over u a).going (known_at w.code u i (keeper.over u a) r.0) s.0) where
+    ways : At (xs ++ rest) (moved u.regs (u.pc + 4) u) × At (behind xs ++ rest) (jumped u.regs (target i u.pc) u)
+    ways = both_ways u i xs rest a r s
+
+    by : (b : Bool) → step u ≡ cond b (jumped u.regs (target i u.pc) u) (moved u.regs (next_pc u) u) → At (xs ++ rest) (step u) ⊎ At (behind xs ++ rest) (step u)
+    by true e = inr (subst (At (behind xs ++ rest)) (sym e) ways.1)
+    by false e = inl (subst (At (xs ++ rest)) (sym (e ∙ ap (λ p. moved u.regs p u) (pc_four w u i r.0))) ways.0)
 
   on_skip : (u : State) (i : Ins) (xs rest : List Item) → D u → Reads false w.code w.entry u.pc (Plain i ∷ xs ++ rest) → Skips i xs → Good xs → Good (behind xs) → Comes (At rest) u (cond (is_break i.kind) 0 1 + cost xs)
   on_skip u i xs rest a r s good far =

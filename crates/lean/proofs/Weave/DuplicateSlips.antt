@@ -79,6 +79,16 @@ module _ (g : Program) (w : World) (output : memory_of g.segments ≡ w.output) 
       cells = λ q l o. sym (put_cells g w output u.memory a n x q fa ha l o);
     }
 
+    -- its step goes on, if it does not trap
+    pub slip_goes : (v : State) → next u ≡ Known i → NotTrapped (step u) → SlipsDuplicate g w.base w.distance i u v → (step u).outcome ≡ Going
+    slip_goes v known calm (writes k d h) =
+        ⊎_elim
+        (λ c. ap (λ z. z.outcome) (step-compute u i going known c) ∙ going)
+        (λ c. ap (λ z. z.outcome) (step-load u i going known c (load_granted u i going known c calm)) ∙ going)
+        k
+    slip_goes v known calm (stores x a c here there e) = ap (λ z. z.outcome) (step-store u i going known c (store_granted u i going known c calm)) ∙ going
+    slip_goes v known calm (leaves c here e) = ap (λ z. z.outcome) (step-store u i going known c (store_granted u i going known c calm)) ∙ going
+
     module _ (known : next u ≡ Known i) (goes : (step u).outcome ≡ Going) where
       -- it does not trap
       calm : NotTrapped (step u)
@@ -104,63 +114,65 @@ module _ (g : Program) (w : World) (output : memory_of g.segments ≡ w.output) 
           (leaves_disturb (place i u) (width_of i.kind) (reg u i.rs2) (next_pc u) (width_le i.kind) here))
 
   -- ---- the run with it
-  module _ (regs : List ℕ) (n : ℕ) (v : State) (d : Disturbed w (step (after_output g regs n)) v) where
+  module _ (regs : List ℕ) (n : ℕ) (v : State) where
     abbrev y : ℕ → State
     y j = slipped_run g regs n v j
 
     -- up to the slip, and behind it
-    before : (j : ℕ) → j ≤ n → y j ≡ after_output g regs j
+    pub before : (j : ℕ) → j ≤ n → y j ≡ after_output g regs j
     before j h = ap (λ b. cond b (after_output g regs j) (run v (j - (n + 1)))) (le-leb j n h)
 
-    behind : (j : ℕ) → n < j → y j ≡ run v (j - (n + 1))
+    pub behind : (j : ℕ) → n < j → y j ≡ run v (j - (n + 1))
     behind j h = by (nat_le j n) refl where
       by : (b : Bool) → nat_le j n ≡ b → cond b (after_output g regs j) (run v (j - (n + 1))) ≡ run v (j - (n + 1))
       by true e = absurd (let k = leb-true j n e in omega (arith, h, k))
       by false e = refl
 
-    next_run : (s : State) (j : ℕ) → run s (suc j) ≡ step (run s j)
-    next_run s j = let e : suc j ≡ j + 1 = omega arith in ap (run s) e ∙ run-last s j
+    -- by a change of the duplicate half
+    module _ (d : Disturbed w (step (after_output g regs n)) v) where
+      next_run : (s : State) (j : ℕ) → run s (suc j) ≡ step (run s j)
+      next_run s j = let e : suc j ≡ j + 1 = omega arith in ap (run s) e ∙ run-last s j
 
-    made : ℕ → ℕ
-    made j = cond (nat_le j n) 0 1
+      made : ℕ → ℕ
+      made j = cond (nat_le j n) 0 1
 
-    pub slip_plays : Played w (slipped_run g regs n v) 1
-    unfolding made
-    slip_plays = record { made = made; few = λ j. few (nat_le j n); goes = goes } where
-      few : (b : Bool) → cond {A = ℕ} b 0 1 ≤ 1
-      few true = omega arith
-      few false = omega arith
+      pub slip_plays : Played w (slipped_run g regs n v) 1
+      unfolding made
+      slip_plays = record { made = made; few = λ j. few (nat_le j n); goes = goes } where
+        few : (b : Bool) → cond {A = ℕ} b 0 1 ≤ 1
+        few true = omega arith
+        few false = omega arith
 
-      early : (j : ℕ) → j ≤ n → cond {A = ℕ} (nat_le j n) 0 1 ≡ 0
-      early j h = ap (λ b. cond {A = ℕ} b 0 1) (le-leb j n h)
+        early : (j : ℕ) → j ≤ n → cond {A = ℕ} (nat_le j n) 0 1 ≡ 0
+        early j h = ap (λ b. cond {A = ℕ} b 0 1) (le-leb j n h)
 
-      late : (j : ℕ) → n < j → cond {A = ℕ} (nat_le j n) 0 1 ≡ 1
-      late j h = by (nat_le j n) refl where
-        by : (b : Bool) → nat_le j n ≡ b → cond {A = ℕ} b 0 1 ≡ 1
-        by true e = absurd (let k = leb-true j n e in omega (arith, h, k))
-        by false e = refl
+        late : (j : ℕ) → n < j → cond {A = ℕ} (nat_le j n) 0 1 ≡ 1
+        late j h = by (nat_le j n) refl where
+          by : (b : Bool) → nat_le j n ≡ b → cond {A = ℕ} b 0 1 ≡ 1
+          by true e = absurd (let k = leb-true j n e in omega (arith, h, k))
+          by false e = refl
 
-      goes : (j : ℕ) → ((y (suc j) ≡ step (y j)) × (cond {A = ℕ} (nat_le j n) 0 1 ≤ cond {A = ℕ} (nat_le (suc j) n) 0 1)) ⊎ (Disturbed w (step (y j)) (y (suc j)) × (suc (cond {A = ℕ} (nat_le j n) 0 1) ≤ cond {A = ℕ} (nat_le (suc j) n) 0 1))
-      goes j =
-          ⊎_elim
-          (λ lt.
-          let e = early j (omega (arith, lt)) in
-          inl (before (suc j) (omega (arith, lt)) ∙ next_run (start g regs) j ∙ ap step (sym (before j (omega (arith, lt)))), omega (arith, e)))
-          (λ ge.
-          ⊎_elim
-          (λ same.
-          let a = early j (omega (arith, same)) in
-          let b = late (suc j) (omega (arith, same)) in
-          let none : suc j - (n + 1) ≡ 0 = omega (arith, same) in
-          let is : y (suc j) ≡ v = behind (suc j) (omega (arith, same)) ∙ ap (run v) none ∙ run-none v in
-          inr (subst (Disturbed w (step (y j))) (sym is) (subst (λ z. Disturbed w (step z) v) (sym (before j (omega (arith, same)) ∙ ap (after_output g regs) same)) d), omega (arith, a, b)))
-          (λ ne.
-          let a = late j (omega (arith, ge, ne)) in
-          let b = late (suc j) (omega (arith, ge)) in
-          let one : suc j - (n + 1) ≡ suc (j - (n + 1)) = omega (arith, ge, ne) in
-          inl (behind (suc j) (omega (arith, ge)) ∙ ap (run v) one ∙ next_run v (j - (n + 1)) ∙ ap step (sym (behind j (omega (arith, ge, ne)))), omega (arith, a, b)))
-          (cases_eq j n))
-          (cases_lt j n)
+        goes : (j : ℕ) → ((y (suc j) ≡ step (y j)) × (cond {A = ℕ} (nat_le j n) 0 1 ≤ cond {A = ℕ} (nat_le (suc j) n) 0 1)) ⊎ (Disturbed w (step (y j)) (y (suc j)) × (suc (cond {A = ℕ} (nat_le j n) 0 1) ≤ cond {A = ℕ} (nat_le (suc j) n) 0 1))
+        goes j =
+            ⊎_elim
+            (λ lt.
+            let e = early j (omega (arith, lt)) in
+            inl (before (suc j) (omega (arith, lt)) ∙ next_run (start g regs) j ∙ ap step (sym (before j (omega (arith, lt)))), omega (arith, e)))
+            (λ ge.
+            ⊎_elim
+            (λ same.
+            let a = early j (omega (arith, same)) in
+            let b = late (suc j) (omega (arith, same)) in
+            let none : suc j - (n + 1) ≡ 0 = omega (arith, same) in
+            let is : y (suc j) ≡ v = behind (suc j) (omega (arith, same)) ∙ ap (run v) none ∙ run-none v in
+            inr (subst (Disturbed w (step (y j))) (sym is) (subst (λ z. Disturbed w (step z) v) (sym (before j (omega (arith, same)) ∙ ap (after_output g regs) same)) d), omega (arith, a, b)))
+            (λ ne.
+            let a = late j (omega (arith, ge, ne)) in
+            let b = late (suc j) (omega (arith, ge)) in
+            let one : suc j - (n + 1) ≡ suc (j - (n + 1)) = omega (arith, ge, ne) in
+            inl (behind (suc j) (omega (arith, ge)) ∙ ap (run v) one ∙ next_run v (j - (n + 1)) ∙ ap step (sym (behind j (omega (arith, ge, ne)))), omega (arith, a, b)))
+            (cases_eq j n))
+            (cases_lt j n)
 
-    pub slip_begins : slipped_run g regs n v 0 ≡ start g regs
-    slip_begins = before 0 (omega arith) ∙ run-none (start g regs)
+      pub slip_begins : slipped_run g regs n v 0 ≡ start g regs
+      slip_begins = before 0 (omega arith) ∙ run-none (start g regs)

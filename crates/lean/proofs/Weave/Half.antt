@@ -165,7 +165,7 @@ module _ (w : World) where
       let long = h.standing.flagged.regs in
       (half_spare x s u r v p spare h, slice_index-set_reg_same u.regs r v one (omega (arith, long, few)) ∙ e)
 
-  but_other : (l : List ℕ) (r d v : ℕ) → but r d ≡ true → slice_index (set_reg d v l) r ≡ slice_index l r
+  pub but_other : (l : List ℕ) (r d v : ℕ) → but r d ≡ true → slice_index (set_reg d v l) r ≡ slice_index l r
   but_other l r d v e = slice_index-set_reg_other l d v r (λ same. false≢true (sym (not-true (d == r) (and_parts _ _ e).1) ∙ ap (λ n. n == r) (sym same) ∙ same_is r)) where
     same_is : (n : ℕ) → (n == n) ≡ true
     same_is n = eq-eqb n n refl

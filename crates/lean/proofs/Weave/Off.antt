@@ -30,7 +30,7 @@ use Rattle.lean.proofs.Weave.PieceCosts.{pieces_cost}
 use Rattle.lean.proofs.Weave.Plan.{BlockAt}
 use Rattle.lean.proofs.Weave.Promise.{block_at}
 use Rattle.lean.proofs.Weave.Inside.{small_at, few, from_inside, drifting_at}
-use Rattle.lean.proofs.Weave.Tick.{count_sum, low_bit, high_bit, ticked, pass_row, call_row, jump_at}
+use Rattle.lean.proofs.Weave.Tick.{shifted, ticked, pass_row, call_row, jump_at}
 use Rattle.lean.proofs.Weave.Sign.{fires}
 
 -- ---- what a leave costs at least where its test fires
@@ -42,6 +42,22 @@ leap_least leader i a at =
     let some : List Item = look_up TEMPORARY ++ look_again 0 in
     let f = cost_append (links i at) some in
     omega (arith, f, cost_append (guard i.rs1) (Plain (ins Addi TEMPORARY i.rs1 0 i.imm) ∷ Plain (ins Andi TEMPORARY TEMPORARY 0 (neg_ℤ (pos 2))) ∷ (called ++ (links i at ++ some))))
+
+-- ---- what a number in x15 leaves
+-- how far its count is from 2047, modulo 2^12
+abbrev pub spare : ℕ → ℕ
+spare c = (2 ^ 12 + 2047 - c % 2 ^ 12) % 2 ^ 12
+
+-- bit 11 is the highest of what the tick shifts
+low_half : (c : ℕ) → c % 2 ^ 12 < 2 ^ 11 → shifted c < 2 ^ 63
+low_half c h = omega (arith, h)
+
+high_half : (c : ℕ) → 2 ^ 11 ≤ c % 2 ^ 12 → 2 ^ 63 ≤ shifted c
+high_half c h = omega (arith, h)
+
+-- a tick that passes takes what it counts
+spent : (c most : ℕ) → most ≤ 2047 → (c + most) % 2 ^ 64 % 2 ^ 12 < 2 ^ 11 → most + spare ((c + most) % 2 ^ 64) ≡ spare c
+spent c most small low = omega (arith, small, low)
 
 module _ (f g : Program) (w : World) (l : Lean) (blocks : List Block) (p : LeanPlan f g w l blocks) where
   abbrev leader : ℕ → Bool
@@ -99,47 +115,16 @@ module _ (f g : Program) (w : World) (l : Lean) (blocks : List Block) (p : LeanP
   -- ---- from entry to entry
   -- the steps to the next tick, and those that the count leaves
   abbrev left : ℕ → ℕ → ℕ
-  left t n = owed l t + (2047 - n)
+  left t c = owed l t + spare c
 
-  -- where the block leads less is left
-  module _ (b : Block) (here : BlockAt w l leader b) where
-    some : 3 ≤ block_steps l.diverse l.land leader b
-    some = by l.land where
-      by : (land : Bool) → 3 ≤ block_steps l.diverse land leader b
-      by true = omega arith
-      by false = omega arith
-
-    less :
-        (n m t : ℕ) → may_lead b.end (end_at b) t ≡ true → m ≤ 2047 → n + cond (l.ticks b.start) (l.most b.start) 0 ≡ m
-        → block_steps l.diverse l.land leader b + left t m ≤ left b.start n
-    less n m t way high e = by (l.ticks b.start) refl where
-      by : (k : Bool) → l.ticks b.start ≡ k → block_steps l.diverse l.land leader b + left t m ≤ left b.start n
-      by true is =
-          let z : left b.start n ≡ 0 + (2047 - n) = ap (λ k. cond k 0 (l.most b.start) + (2047 - n)) is in
-          let y : n + l.most b.start ≡ m = ap (λ k. n + cond k (l.most b.start) 0) (sym is) ∙ e in
-          let h = here.counts.1 t way in
-          omega (arith, z, y, h, high)
-      by false is =
-          let z : left b.start n ≡ l.most b.start + (2047 - n) = ap (λ k. cond k 0 (l.most b.start) + (2047 - n)) is in
-          let y : n + 0 ≡ m = ap (λ k. n + cond k (l.most b.start) 0) (sym is) ∙ e in
-          let h = here.counts.1 t way in
-          omega (arith, z, y, h, high)
-
-    room : (n m : ℕ) → m ≤ 2047 → n + cond (l.ticks b.start) (l.most b.start) 0 ≡ m → block_steps l.diverse l.land leader b ≤ left b.start n
-    room n m high e = by (l.ticks b.start) refl where
-      by : (k : Bool) → l.ticks b.start ≡ k → block_steps l.diverse l.land leader b ≤ left b.start n
-      by true is =
-          let z : left b.start n ≡ 0 + (2047 - n) = ap (λ k. cond k 0 (l.most b.start) + (2047 - n)) is in
-          let y : n + l.most b.start ≡ m = ap (λ k. n + cond k (l.most b.start) 0) (sym is) ∙ e in
-          let h = here.counts.0 in
-          omega (arith, z, y, h, high)
-      by false is =
-          let z : left b.start n ≡ l.most b.start + (2047 - n) = ap (λ k. cond k 0 (l.most b.start) + (2047 - n)) is in
-          let h = here.counts.0 in
-          omega (arith, z, h)
+  some : (b : Block) → 3 ≤ block_steps l.diverse l.land leader b
+  some b = by l.land where
+    by : (land : Bool) → 3 ≤ block_steps l.diverse land leader b
+    by true = omega arith
+    by false = omega arith
 
   -- ---- an entry
-  module _ (b : Block) (m : Among b blocks) (k n q x : ℕ) (y : State) (few : k < 2 ^ 32) (high : n ≤ 2047) (s : Drifting w (x, with_count k n, q) y) (at : y.pc ≡ w.entry b.start) (small_x : x < 2 ^ 64) (ne : Wrong q b.start x) where
+  module _ (b : Block) (m : Among b blocks) (c q x : ℕ) (y : State) (s : Drifting w (x, c, q) y) (at : y.pc ≡ w.entry b.start) (small_x : x < 2 ^ 64) (ne : Wrong q b.start x) where
     here : BlockAt w l leader b
     here = block_at f g w l blocks p b m
 
@@ -155,41 +140,42 @@ module _ (f g : Program) (w : World) (l : Lean) (blocks : List Block) (p : LeanP
       within : steps ≤ entry_steps l.land
       to : State
       ends : run y steps ≡ to
-      count : ℕ
-      bound : count ≤ 2047
-      sum : n + cond (l.ticks b.start) (l.most b.start) 0 ≡ count
-      state : Drifting w (x, with_count k count, q) to
+      cursor : ℕ
+      fewer : (o : ℕ) → o ≤ l.most b.start → o + spare cursor ≤ left b.start c
+      state : Drifting w (x, cursor, q) to
       reads : Reads false w.code w.entry to.pc body
 
     small : l.most b.start ≤ 2047
     small = let e = p.sound.ticks b.start (begins blocks b m) in let h = p.sound.few in omega (arith, e, h)
 
     -- ---- at its tick, behind the test of the signature, if there is one
-    module _ (land : Bool) (before : ℕ) (u : State) (ends : run y before ≡ u) (su : Drifting w (x, with_count k n, q) u) (named : land ≡ true → reg u TEMPORARY ≡ b.start) where
+    module _ (land : Bool) (before : ℕ) (u : State) (ends : run y before ≡ u) (su : Drifting w (x, c, q) u) (named : land ≡ true → reg u TEMPORARY ≡ b.start) where
       abbrev ticks_to : List Item
       ticks_to = tick land b.start (l.most b.start) (distance_between (u.pc + jump_at land) l.check)
 
       over : CodeOver w.code u
-      over = over_of w (x, with_count k n, q) u su
+      over = over_of w (x, c, q) u su
 
       abbrev now : ℕ
-      now = with_count k (n + l.most b.start)
+      now = (c + l.most b.start) % 2 ^ 64
 
-      sum : (reg u CURSOR + wrapped (pos (l.most b.start))) % 2 ^ 64 ≡ with_count k (n + l.most b.start)
-      sum = count_sum (reg u CURSOR) k n (l.most b.start) su.cursor high few small
+      sum : (reg u CURSOR + wrapped (pos (l.most b.start))) % 2 ^ 64 ≡ now
+      sum = let e = su.cursor in omega (arith, e)
 
-      passed : before + 3 ≤ entry_steps l.land → n + l.most b.start < 2048 → Reads false w.code w.entry u.pc (ticks_to ++ body) → l.ticks b.start ≡ true → Behind
+      passed : before + 3 ≤ entry_steps l.land → now % 2 ^ 12 < 2 ^ 11 → Reads false w.code w.entry u.pc (ticks_to ++ body) → l.ticks b.start ≡ true → Behind
       passed le lt r is =
-          let o = pass_row w u (l.most b.start) now over su.standing.flagged.regs su.standing.flagged.zero_reg sum land b.start body (distance_between (u.pc + jump_at land) l.check) (low_bit k (n + l.most b.start) (omega (arith, lt))) (to_far f g w l blocks p true 0 0 u.pc (ticks_to ++ body) r) in
+          let o = pass_row w u (l.most b.start) now over su.standing.flagged.regs su.standing.flagged.zero_reg sum land b.start body (distance_between (u.pc + jump_at land) l.check) (low_half now lt) (to_far f g w l blocks p true 0 0 u.pc (ticks_to ++ body) r) in
           let ws = ticked w u (l.most b.start) now over su.standing.flagged.regs su.standing.flagged.zero_reg sum in
           record {
             steps = before + 3;
             within = le;
             to = moved (writes ws u.regs) o.pc u;
             ends = run-more y before 3 ∙ ap (λ z. run z 3) ends ∙ o.walk.ends;
-            count = n + l.most b.start;
-            bound = omega (arith, lt);
-            sum = ap (λ z. n + cond z (l.most b.start) 0) is;
+            cursor = now;
+            fewer = λ o h.
+                let z : left b.start c ≡ 0 + spare c = ap (λ t. cond t 0 (l.most b.start) + spare c) is in
+                let e = spent c (l.most b.start) small lt in
+                omega (arith, h, z, e);
             state = record {
               going = su.going;
               standing = subst (Standing w.code w.output) o.walk.ends (standing_run w.code w.output w.output_fixed 3 u su.standing);
@@ -208,24 +194,24 @@ module _ (f g : Program) (w : World) (l : Lean) (blocks : List Block) (p : LeanP
       same_check = ap (λ d. check_distance d ++ rest) (sym p.sound.apart)
 
       -- the check compares the signature with the address of the block, and x14 with the distance
-      checked : 2048 ≤ n + l.most b.start → Reads false w.code w.entry u.pc (ticks_to ++ body) → Over u 9
+      checked : 2 ^ 11 ≤ now % 2 ^ 12 → Reads false w.code w.entry u.pc (ticks_to ++ body) → Over u 9
       checked ge r =
           let first = ins Beq 0 SIGNATURE TEMPORARY (pos 8) in
           let near = w.low l.check first p.sound.check.0 in
-          let c = call_row w u (l.most b.start) now over su.standing.flagged.regs su.standing.flagged.zero_reg sum land b.start l.check body (high_bit k (n + l.most b.start) ge (omega (arith, high, small))) here.good.low named (omega (arith, near)) (w.grain l.check first p.sound.check.0) (to_far f g w l blocks p true 0 0 u.pc (ticks_to ++ body) r) in
-          let z = moved (writes c.effects u.regs) l.check u in
-          let oz = over_moved w.code u (writes c.effects u.regs) l.check over in
-          let long = writes_long c.effects u.regs ∙ su.standing.flagged.regs in
+          let k = call_row w u (l.most b.start) now over su.standing.flagged.regs su.standing.flagged.zero_reg sum land b.start l.check body (high_half now ge) here.good.low named (omega (arith, near)) (w.grain l.check first p.sound.check.0) (to_far f g w l blocks p true 0 0 u.pc (ticks_to ++ body) r) in
+          let z = moved (writes k.effects u.regs) l.check u in
+          let oz = over_moved w.code u (writes k.effects u.regs) l.check over in
+          let long = writes_long k.effects u.regs ∙ su.standing.flagged.regs in
           let calls = call_most land in
           comes_more (λ y. ⊥) u (3 + call_steps land + 3) 9 (omega (arith, calls))
-          (comes_behind (λ y. ⊥) u z (3 + call_steps land) 3 c.walk.ends
+          (comes_behind (λ y. ⊥) u z (3 + call_steps land) 3 k.walk.ends
           (⊎_elim
           (λ same.
           let e = sets_equal w z 16 30 (check_distance w.distance ++ rest) oz p.sound.check same in
           let z2 = moved z.regs e.pc z in
           comes_behind (λ y. ⊥) z z2 1 2 e.walk.ends
           (distance_off f g w l blocks p true 0 q b.start x here.good.low small_x ne z2 rest (over_moved w.code z z.regs e.pc oz) long
-          (λ d. ⊎_elim (λ o. o (sym su.sign ∙ sym c.sixteen ∙ same ∙ c.thirty)) (λ o. o.1 (sym su.distance ∙ sym c.fourteen ∙ d)) ne)
+          (λ d. ⊎_elim (λ o. o (sym su.sign ∙ sym k.sixteen ∙ same ∙ k.thirty)) (λ o. o.1 (sym su.distance ∙ sym k.fourteen ∙ d)) ne)
           (subst (Reads w.form.far w.code w.entry e.pc) same_check e.reads)))
           (λ other. comes_more (λ y. ⊥) z 1 3 (omega arith) (beq_fires f g w l blocks p true 0 0 z 16 30 (check_distance w.distance ++ rest) oz p.sound.check other))
           (cases_eq (reg z SIGNATURE) (reg z TEMPORARY)))) where
@@ -236,10 +222,10 @@ module _ (f g : Program) (w : World) (l : Lean) (blocks : List Block) (p : LeanP
       by_tick : before + 3 ≤ entry_steps l.land → Reads false w.code w.entry u.pc (cond (l.ticks b.start) ticks_to [] ++ body) → Over u 9 ⊎ Behind
       by_tick le r = by (l.ticks b.start) refl r where
         by : (t : Bool) → l.ticks b.start ≡ t → Reads false w.code w.entry u.pc (cond t ticks_to [] ++ body) → Over u 9 ⊎ Behind
-        by true is r = ⊎_elim (λ lt. inr (passed le lt r is)) (λ ge. inl (checked ge r)) (cases_lt (n + l.most b.start) 2048)
+        by true is r = ⊎_elim (λ lt. inr (passed le lt r is)) (λ ge. inl (checked ge r)) (cases_lt (now % 2 ^ 12) (2 ^ 11))
         by false is r =
-            let none : n + 0 ≡ n = omega arith in
-            inr (record { steps = before; within = omega (arith, le); to = u; ends = ends; count = n; bound = high; sum = ap (λ z. n + cond z (l.most b.start) 0) is ∙ none; state = su; reads = r })
+            let z : left b.start c ≡ l.most b.start + spare c = ap (λ t. cond t 0 (l.most b.start) + spare c) is in
+            inr (record { steps = before; within = omega (arith, le); to = u; ends = ends; cursor = c; fewer = λ o h. omega (arith, h, z); state = su; reads = r })
 
     abbrev entry_of : Bool → ℕ → List Item
     entry_of land d = enter land (l.ticks b.start) b.start (l.most b.start) (distance_between d l.check)
@@ -250,7 +236,7 @@ module _ (f g : Program) (w : World) (l : Lean) (blocks : List Block) (p : LeanP
         (subst (λ d. Reads false w.code w.entry (w.entry b.start) (entry_of d (w.entry b.start + call_at d) ++ body)) is here.reads.1)
 
     over_y : CodeOver w.code y
-    over_y = over_of w (x, with_count k n, q) y s
+    over_y = over_of w (x, c, q) y s
 
     -- the entry tests the signature
     tests_it : l.land ≡ true → Reads false w.code w.entry y.pc (check_sign b.start ++ (cond (l.ticks b.start) (tick true b.start (l.most b.start) (distance_between (y.pc + 28) l.check)) [] ++ body)) → Over y 12 ⊎ Behind
@@ -262,7 +248,7 @@ module _ (f g : Program) (w : World) (l : Lean) (blocks : List Block) (p : LeanP
         let t = sign_walk w y b.start more over_y long (s.sign ∙ same) here.good.low (to_far f g w l blocks p true 0 0 y.pc (check_sign b.start ++ more) r) in
         let ws : List (ℕ × ℕ) = (30, b.start) ∷ [] in
         let u = moved (writes ws y.regs) (y.pc + 8 + 8) y in
-        let su : Drifting w (x, with_count k n, q) u = record {
+        let su : Drifting w (x, c, q) u = record {
           going = s.going;
           standing = subst (Standing w.code w.output) t.ends (standing_run w.code w.output w.output_fixed 3 y s.standing);
           sign = read_back ws y.regs 16 long refl ∙ s.sign;
@@ -289,46 +275,47 @@ module _ (f g : Program) (w : World) (l : Lean) (blocks : List Block) (p : LeanP
 
   -- ---- the law
   module _ (q : ℕ) where
-    abbrev Off : ℕ → ℕ → (ℕ → Bool) → State → Type 0
-    Off k n on y = Lost f g w l blocks p true (with_count k n) q on y
+    abbrev Off : ℕ → (ℕ → Bool) → State → Type 0
+    Off c on y = Lost f g w l blocks p true c q on y
 
-    module _ (k n : ℕ) (on : ℕ → Bool) (y : State) (few : k < 2 ^ 32) (high : n ≤ 2047) (z : Off k n on y) (more : (m : ℕ) (on : ℕ → Bool) (u : State) → m ≤ 2047 → (r : Off k m on u) → left r.at m + 3 ≤ left z.at n → Comes (λ y. ⊥) u (left r.at m + 12)) where
-      by_block : (b : Block) (m : Among b blocks) → b.start ≡ z.at → Comes (λ y. ⊥) y (left z.at n + 12)
+    module _ (c : ℕ) (on : ℕ → Bool) (y : State) (z : Off c on y) (more : (d : ℕ) (on : ℕ → Bool) (u : State) (r : Off d on u) → left r.at d + 3 ≤ left z.at c → Comes (λ y. ⊥) u (left r.at d + 12)) where
+      by_block : (b : Block) (m : Among b blocks) → b.start ≡ z.at → Comes (λ y. ⊥) y (left z.at c + 12)
       by_block b m e =
           let here = block_at f g w l blocks p b m in
           let at : y.pc ≡ w.entry b.start = z.here ∙ ap w.entry (sym e) in
           let ne : Wrong q b.start z.sign = ⊎_elim (λ o. inl (λ r. o (r ∙ e))) (λ o. inr o) z.wrong in
           let all = block_steps l.diverse l.land leader b in
-          let same : left b.start n ≡ left z.at n = ap (λ t. left t n) e in
+          let same : left b.start c ≡ left z.at c = ap (λ t. left t c) e in
           ⊎_elim
-          (λ o. comes_more (λ y. ⊥) y 12 (left z.at n + 12) (omega arith) o)
+          (λ o. comes_more (λ y. ⊥) y 12 (left z.at c + 12) (omega arith) o)
           (λ h.
           let part = body_steps l.diverse b.body + leave_cost (fall_to leader) b.end b.start (end_at b) in
           let entry : entry_steps l.land + part ≡ all = refl in
-          let fits = room b here n h.count h.bound h.sum in
-          let least = some b here in
-          let rest = left z.at n - all + 12 in
-          comes_more (λ y. ⊥) y (h.steps + (part + rest)) (left z.at n + 12) (omega (arith, h.within, entry, fits, same))
+          let fits = h.fewer all here.counts.0 in
+          let least = some b in
+          let rest = left z.at c - all + 12 in
+          comes_more (λ y. ⊥) y (h.steps + (part + rest)) (left z.at c + 12) (omega (arith, h.within, entry, fits, same))
           (comes_behind (λ y. ⊥) y h.to h.steps (part + rest) h.ends
-          (comes_on (Off k h.count (may_lead b.end (end_at b))) (λ y. ⊥) h.to part rest (block_law (with_count k h.count) q b z.sign h.to here z.small ne h.state h.reads)
+          (comes_on (Off h.cursor (may_lead b.end (end_at b))) (λ y. ⊥) h.to part rest (block_law h.cursor q b z.sign h.to here z.small ne h.state h.reads)
           (λ u r.
-          let fewer = less b here n h.count r.at r.way h.bound h.sum in
-          comes_more (λ y. ⊥) u (left r.at h.count + 12) rest (omega (arith, fewer, same))
-          (more h.count (may_lead b.end (end_at b)) u h.bound r (omega (arith, fewer, same, least)))))))
-          (passes b m k n q z.sign y few high z.state at z.small ne)
+          let fewer = h.fewer (all + owed l r.at) (here.counts.1 r.at r.way) in
+          comes_more (λ y. ⊥) u (left r.at h.cursor + 12) rest (omega (arith, fewer, same))
+          (more h.cursor (may_lead b.end (end_at b)) u r (omega (arith, fewer, same, least)))))))
+          (passes b m c q z.sign y z.state at z.small ne)
 
-      step_law : Comes (λ y. ⊥) y (left z.at n + 12)
+      step_law : Comes (λ y. ⊥) y (left z.at c + 12)
       step_law = let b = begun blocks z.at z.leads in by_block b.0 b.1 b.2
 
     -- as often as there is something left
-    off_law : (fuel k n : ℕ) (on : ℕ → Bool) (y : State) → k < 2 ^ 32 → n ≤ 2047 → (z : Off k n on y) → left z.at n ≤ fuel → Comes (λ y. ⊥) y (left z.at n + 12)
-    off_law zero k n on y few high z le = step_law k n on y few high z (λ m on u h r e. absurd (omega (arith, e, le)))
-    off_law (suc fuel) k n on y few high z le = step_law k n on y few high z (λ m on u h r e. off_law fuel k m on u few h r (omega (arith, e, le)))
+    off_law : (fuel c : ℕ) (on : ℕ → Bool) (y : State) (z : Off c on y) → left z.at c ≤ fuel → Comes (λ y. ⊥) y (left z.at c + 12)
+    off_law zero c on y z le = step_law c on y z (λ d on u r e. absurd (omega (arith, e, le)))
+    off_law (suc fuel) c on y z le = step_law c on y z (λ d on u r e. off_law fuel d on u r (omega (arith, e, le)))
 
-    pub off : (k n : ℕ) (on : ℕ → Bool) (y : State) → k < 2 ^ 32 → n ≤ 2047 → (z : Off k n on y) → Comes (λ y. ⊥) y 4105
-    off k n on y few high z =
+    -- any number may be in x15
+    pub off_any : (c : ℕ) (on : ℕ → Bool) (y : State) → Off c on y → Comes (λ y. ⊥) y (2046 + spare c + 12)
+    off_any c on y z =
         let owes = owed_few z.at z.leads in
-        comes_more (λ y. ⊥) y (left z.at n + 12) 4105 (omega (arith, owes)) (off_law (left z.at n) k n on y few high z (omega arith)) where
+        comes_more (λ y. ⊥) y (left z.at c + 12) (2046 + spare c + 12) (omega (arith, owes)) (off_law (left z.at c) c on y z (omega arith)) where
           owed_few : (t : ℕ) → leader t ≡ true → owed l t ≤ 2046
           owed_few t h = by (l.ticks t) where
             most : l.most t ≤ 2046
@@ -337,6 +324,9 @@ module _ (f g : Program) (w : World) (l : Lean) (blocks : List Block) (p : LeanP
             by : (b : Bool) → cond b 0 (l.most t) ≤ 2046
             by true = omega arith
             by false = most
+
+    pub off : (k n : ℕ) (on : ℕ → Bool) (y : State) → k < 2 ^ 32 → n ≤ 2047 → Off (with_count k n) on y → Comes (λ y. ⊥) y 4105
+    off k n on y few high z = comes_more (λ y. ⊥) y (2046 + spare (with_count k n) + 12) 4105 (omega (arith, high)) (off_any (with_count k n) on y z)
 
   -- ---- from a word of the pieces of a block
   end_is : (k : Class) (i : Ins) (at : ℕ) → Leaves k w leader i at → is_end k ≡ true
@@ -368,7 +358,7 @@ module _ (f g : Program) (w : World) (l : Lean) (blocks : List Block) (p : LeanP
         let c = reg (after_output g regs t) CURSOR in
         let e : c ≡ with_count (c / 2 ^ 12) (c % 2 ^ 12) = omega arith in
         let low = count.count in
-        let z : Off d (c / 2 ^ 12) (c % 2 ^ 12) (λ q. true) y = record { at = a; sign = sign; way = refl; leads = leads; here = at; wrong = wrong; small = small_sign; state = subst (λ c. Drifting w (sign, c, d) y) e state } in
+        let z : Off d (with_count (c / 2 ^ 12) (c % 2 ^ 12)) (λ q. true) y = record { at = a; sign = sign; way = refl; leads = leads; here = at; wrong = wrong; small = small_sign; state = subst (λ c. Drifting w (sign, c, d) y) e state } in
         let s = off d (c / 2 ^ 12) (c % 2 ^ 12) (λ q. true) y count.offset (omega (arith, low)) z in
         record { steps = s.steps + 1; within = omega (arith, s.within); over = ⊎_elim (λ o. o) (λ z. absurd z) s.is }
 
@@ -387,7 +377,7 @@ module _ (f g : Program) (w : World) (l : Lean) (blocks : List Block) (p : LeanP
         let low = count.count in
         let s = from_inside f g w l blocks p (reg (after_output g regs t) SIGNATURE, reg (after_output g regs t) CURSOR, d) y b m state within (λ y. ⊥) (27 + 4105) (λ u h r.
         comes_more (λ y. ⊥) u (leave_cost (fall_to leader) b.end b.start at + 4105) (27 + 4105) (omega (arith, most))
-        (comes_on (Off d k n (may_lead b.end at)) (λ y. ⊥) u (leave_cost (fall_to leader) b.end b.start at) 4105
+        (comes_on (Off d (with_count k n) (may_lead b.end at)) (λ y. ⊥) u (leave_cost (fall_to leader) b.end b.start at) 4105
         (leave_law (with_count k n) d b.start sign here.good.low small_sign wrong b.end u at ends (subst (λ c. Drifting w (sign, c, d) u) e h) r)
         (λ y z. off d k n (may_lead b.end at) y count.offset (omega (arith, low)) z))) in
         record { steps = s.steps + 1; within = omega (arith, s.within, size); over = ⊎_elim (λ o. o) (λ z. absurd z) s.is }

@@ -52,14 +52,14 @@ module _ (f g : Program) (w : World) (l : Lean) (blocks : List Block) (p : LeanP
   last = entries_of sequences blocks
 
   -- where they stand
-  abbrev at_check : ℕ
+  abbrev pub at_check : ℕ
   at_check = g.entry + 4 * length (instructions_from false w.entry g.entry first)
 
-  abbrev at_cells : ℕ
+  abbrev pub at_cells : ℕ
   at_cells = at_check + 4 * length (instructions_from false w.entry at_check middle)
 
   -- the check stands in its place
-  check_is : at_check ≡ l.check
+  pub check_is : at_check ≡ l.check
   check_is = let s = length-instructions false w.entry g.entry first in let e = p.check in omega (arith, s, e)
 
   -- their words
@@ -69,10 +69,10 @@ module _ (f g : Program) (w : World) (l : Lean) (blocks : List Block) (p : LeanP
   code_words : Reads false w.code w.entry g.entry ((first ++ (middle ++ last)) ++ stub)
   code_words = subst (λ k. Reads false w.code w.entry g.entry k) (sym (append_assoc first (middle ++ last) stub)) whole_words
 
-  reads_check : Reads false w.code w.entry at_check ((middle ++ last) ++ stub)
+  pub reads_check : Reads false w.code w.entry at_check ((middle ++ last) ++ stub)
   reads_check = reads_rest false w.code w.entry g.entry first ((middle ++ last) ++ stub) (whole_words)
 
-  reads_cells : Reads false w.code w.entry at_cells (last ++ stub)
+  pub reads_cells : Reads false w.code w.entry at_cells (last ++ stub)
   reads_cells = reads_rest false w.code w.entry at_check middle (last ++ stub) (subst (λ k. Reads false w.code w.entry at_check k) (append_assoc middle last stub) reads_check)
 
   -- the entries

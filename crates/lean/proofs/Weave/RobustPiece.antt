@@ -1,7 +1,7 @@
 -- A piece under changes: before it the original half has the input's values, and behind it those behind its instructions.
 use Rattle.std.proofs.Common.{◌≡◌, ℕ, zero, suc, ◌+◌, ◌*◌, ◌%◌, ◌^◌, ◌<◌, ◌≤◌, ◌⊎◌, inl, inr, ⊎_elim, Bool, true, false, cond, List, [], ◌∷◌, ◌++◌, length, is_some, refl, sym, ap, ◌∙◌, subst, arith, append_assoc, length-append}
 use Rattle.std.specs.Prelude.{◌==◌, ◌-◌, pos, nat_lt, slice_index}
-use Rattle.std.proofs.lemmas.Bool.{false≢true, false_from_ne_true}
+use Rattle.std.proofs.lemmas.Bool.{and_parts, false≢true, false_from_ne_true}
 use Rattle.rv_isa.specs.declared.class.Class.TheVariants as class
 use Rattle.machine.specs.declared.outcome.Cause.TheVariants as cause
 use Rattle.machine.specs.Table.{ins, Ins, Auipc, Beq, Add, Sub}
@@ -14,12 +14,13 @@ use Rattle.qed_model.specs.Weave.Sequences.{Reads, original, original_as, guard,
 use Rattle.weave_core.specs.Blocks.{IsLowAs, FitsPiece, AllFit}
 use Rattle.weave_core.specs.Rows.{Sourced}
 use Rattle.weave_core.specs.World.{World, Item, Plain, Constant, get, byte_at, byte_of, offset, grants, number, put, width_of, loaded, wrap, State, reg, set_reg, moved, stored, trapped, imm, place, result, next_pc, execute, Known, next, step, run, target, Class, class_of, HasAt}
-use Rattle.lean.specs.Strayed.{IsOver}
+use Rattle.lean.specs.Strayed.{IsOver, Stopped}
+use Rattle.lean.specs.Undisturbed.{slip_steps}
 use Rattle.lean.proofs.Weave.Chain.{cost_append, no_break}
 use Rattle.lean.proofs.Weave.Costs.{guard_most}
 use Rattle.lean.proofs.Weave.Carry.{steady_none, Keep, keep_append, keep_guard, keep_mirror, one_run, slice_index-set_reg_other, slice_index-set_reg_same, step-class, Over, known_at, run-more, auipc_is, IsBodyWord, body_computes, body_loads, body_stores, body_fences, body_word, pc_four, Standing, standing_step, step-compute, step-load, step-store, get-put_outside, byte_at-put_outside, same_number, byte_after, grants-weaker, some-flags, untouched, allows-flags, auipc_step, result_alike, step-fence, load_granted, store_granted, mapped_in, raised_place, spared, source_run, width_le, add_result, sub_result, has_front, has_rest}
-use Rattle.lean.proofs.Weave.Half.{is_spare, but, Half, Into, Holding, IntoHolding, half_over, half_spare, half_moved, half_original, holding_keeps, spare_pair}
-use Rattle.lean.proofs.Weave.Robust.{With, Lasts, leads_keep, half_lasts, into_lasts, half_leads, leads_word, leads_original, leads_none, leads_more, half_met, words_last, leads_compute, Begun, begun_lasts, begins, ends_begun, Onto, steady_first, steady_join, steady_calm, holding_lasts, leads_compare}
+use Rattle.lean.proofs.Weave.Half.{is_spare, but, but_other, Half, Into, Holding, IntoHolding, half_over, half_spare, half_moved, half_original, holding_keeps, spare_pair}
+use Rattle.lean.proofs.Weave.Robust.{With, Lasts, leads_keep, half_lasts, into_lasts, half_leads, leads_word, leads_original, leads_none, leads_more, half_met, words_last, leads_compute, Begun, begun_lasts, begins, ends_begun, Onto, steady_first, steady_join, steady_calm, holding_lasts, leads_compare, computes as steps_to, compare_step, firing_over, Calm, Slip, IsOwn, Before_words, Slides, Recovers, EveryOf, mends, mends_own, mends_gives, Constant_recovers, constant_own, slip_gives, slip_elim, same_word, every_plain}
 
 -- no store
 abbrev Bare : Ins → Type 0
@@ -29,6 +30,11 @@ Bare i = class_of i.kind ≡ class.Store → ⊥
 run-step : (s : State) (n : ℕ) → run s (suc n) ≡ run (step s) n
 unfolding run
 run-step s n = refl
+
+-- and by three
+run-three : (s : State) → run s 3 ≡ step (step (step s))
+unfolding run
+run-three s = refl
 
 -- ---- the words of one instruction
 module _ (w : World) where
@@ -229,44 +235,50 @@ store_cost i k = let e = cost_append (guard_value i) (Plain i ∷ mirrored_store
   two : cost (Plain i ∷ mirrored_store i ∷ []) ≡ 2
   two = ap (λ b. cond {A = ℕ} b 0 1 + (cond {A = ℕ} b 0 1 + 0)) (no_break i.kind class.Store k (λ e. absurd (cc)))
 
-module _ (w : World) (bound price : ℕ) where
+module _ (w : World) (bound price : ℕ) (slip : Bool) where
   -- what follows one instruction, and n of them, if `most` steps are left
   abbrev pub Onward : ℕ → ℕ → ℕ → State → (State → Type 0) → Type 0
-  Onward N K most s Q = (K' : ℕ) → suc K' ≤ K → IsSteady w.reached s 1 → Onto w bound price N K' (step s) most Q
+  Onward N K most s Q = (K' : ℕ) → suc K' ≤ K → IsSteady w.reached s 1 → Onto w bound price slip N K' (step s) most Q
 
   abbrev pub Follows : ℕ → ℕ → ℕ → ℕ → ℕ → State → List Item → Type 0
-  Follows x N K n most s rest = (K' : ℕ) → K' + n ≤ K → IsSteady w.reached s n → Onto w bound price N K' (run s n) most (Into w x (run s n) rest)
+  Follows x N K n most s rest = (K' : ℕ) → K' + n ≤ K → IsSteady w.reached s n → Onto w bound price slip N K' (run s n) most (Into w x (run s n) rest)
 
   -- ---- words
   -- a word that makes the input's next state, for any K
   pub makes :
       (x N K : ℕ) (s : State) (P Q : State → Type 0) (few many : ℕ) → 1 ≤ many → suc few ≤ many + bound → Lasts w bound price P → ((u : State) → Q u → Half w x (step s) u)
-      → (IsSteady w.reached s 1 → (u : State) → P u → Q (step u)) → Onward N K few s Q → Onto w bound price N K s many P
-  makes x N zero s P Q few many some le lasts half goes on = leads_none w bound price N s (With w bound price many P)
-  makes x N (suc K) s P Q few many some le lasts half goes on =
-      leads_original w bound price N K s P Q few many some le lasts
+      → (IsSteady w.reached s 1 → (u : State) → P u → Q (step u)) → (slip ≡ true → Recovers w bound price (IsSteady w.reached s) (step s) N K (With w bound price many P)) → Onward N K few s Q
+      → Onto w bound price slip N K s many P
+  makes x N zero s P Q few many some le lasts half goes mend on = leads_none w bound price slip N s (With w bound price many P)
+  makes x N (suc K) s P Q few many some le lasts half goes mend on =
+      leads_original w bound price slip N K s P Q few many some le lasts
       (λ st u b. let q = goes st u b in inr (half_met w bound price x (step s) (step u) (half (step u) q), q))
+      mend
       (λ st. on K (omega arith) st)
 
   -- ---- the original part of an instruction without a store
   module _
       (x : ℕ) (i : Ins) (s : State) (rest : List Item) (N K few extra : ℕ) (le : few ≤ extra + bound) (fit : FitsPiece i) (so : Sourced w s) (has : w.source s.pc ≡ Known i)
       (on : Onward N K few s (Into w x (step s) rest)) where
-    auipc : i.kind ≡ Auipc → i.rd ≤ LAST_ORIGINAL → Onto w bound price N K s (2 + extra) (Into w x s (Constant i.rd (target i s.pc) ∷ rest))
+    auipc : i.kind ≡ Auipc → i.rd ≤ LAST_ORIGINAL → Onto w bound price slip N K s (2 + extra) (Into w x s (Constant i.rd (target i s.pc) ∷ rest))
     auipc k h =
-        leads_word w bound price _ _ N K (Into w x s (Constant i.rd v ∷ rest)) Middle (1 + extra) (2 + extra) (omega arith) (into_lasts w bound price x s (Constant i.rd v ∷ rest))
+        leads_word w bound price slip _ _ N K (Into w x s (Constant i.rd v ∷ rest)) Middle (1 + extra) (2 + extra) (omega arith) (into_lasts w bound price x s (Constant i.rd v ∷ rest))
         (λ u b.
         inr (begins w bound price i.rd v rest (Half w x (step s)) u (half_over w x s u b.0) b.0.standing.flagged.regs (omega (arith, h)) b.1
         (λ p. sets w x i u s rest fit b.0 has calm i.rd v p h is)))
+        (λ on. own.0)
         (makes x N K s Middle (Into w x (step s) rest) few (1 + extra) (omega arith) (omega (arith, le))
         (begun_lasts w bound price i.rd v rest (Half w x (step s)) (inl (omega (arith, h))) (half_lasts w bound price x (step s)))
         (λ u q. q.0)
-        (λ st u g. ends_begun w bound price i.rd v rest (Half w x (step s)) u (omega arith) g) on) where
+        (λ st u g. ends_begun w bound price i.rd v rest (Half w x (step s)) u (omega arith) g) (λ on. own.1) on) where
           v : ℕ
           v = target i s.pc
 
           Middle : State → Type 0
           Middle = Begun w bound price i.rd v rest (Half w x (step s))
+
+          own : Constant_recovers w bound price (IsSteady w.reached s) (step s) N K i.rd v (Half w x s) (Half w x (step s)) rest extra (2 + extra)
+          own = constant_own w bound price (IsSteady w.reached s) (step s) N K i.rd v (Half w x s) (Half w x (step s)) rest extra (2 + extra) h
 
           is : step s ≡ moved (set_reg i.rd v s.regs) (next_pc s) s
           is = auipc_step w s i k so.over.going (known_at w.source s i so.over has)
@@ -276,35 +288,35 @@ module _ (w : World) (bound price : ℕ) where
 
     -- an instruction that is its own original part
     word :
-        (k : Class) → class_of i.kind ≡ k → (k ≡ class.Break → ⊥) → (IsSteady w.reached s 1 → (u : State) → Into w x s (Plain i ∷ rest) u → Into w x (step s) rest (step u))
-        → Onto w bound price N K s (cost (Plain i ∷ []) + extra) (Into w x s (Plain i ∷ rest))
-    word k e ne goes =
+        (k : Class) → class_of i.kind ≡ k → (k ≡ class.Break → ⊥) → IsOwn w i → (IsSteady w.reached s 1 → (u : State) → Into w x s (Plain i ∷ rest) u → Into w x (step s) rest (step u))
+        → Onto w bound price slip N K s (cost (Plain i ∷ []) + extra) (Into w x s (Plain i ∷ rest))
+    word k e ne own goes =
         let one : 1 ≡ cost (Plain i ∷ []) = ap (λ b. cond {A = ℕ} b 0 1 + 0) (sym (no_break i.kind k e ne)) in
-        subst (λ n. Onto w bound price N K s (n + extra) (Into w x s (Plain i ∷ rest))) one
+        subst (λ n. Onto w bound price slip N K s (n + extra) (Into w x s (Plain i ∷ rest))) one
         (makes x N K s (Into w x s (Plain i ∷ rest)) (Into w x (step s) rest) few (1 + extra) (omega arith) (omega (arith, le)) (into_lasts w bound price x s (Plain i ∷ rest))
-        (λ u q. q.0) goes on)
+        (λ u q. q.0) goes (λ is. mends_own w bound price (IsSteady w.reached s) (step s) N K (With w bound price (1 + extra) (Into w x s (Plain i ∷ rest))) (λ m u d. (i, d.0.1.0, own))) on)
 
     -- behind its guard
-    guarded : class_of i.kind ≡ class.Load → Onto w bound price N K s (cost (guard i.rs1 ++ (Plain i ∷ [])) + extra) (Into w x s ((guard i.rs1 ++ (Plain i ∷ [])) ++ rest))
+    guarded : class_of i.kind ≡ class.Load → Onto w bound price slip N K s (cost (guard i.rs1 ++ (Plain i ∷ [])) + extra) (Into w x s ((guard i.rs1 ++ (Plain i ∷ [])) ++ rest))
     guarded k =
         let sum = cost_append (guard i.rs1) (Plain i ∷ []) in
         let sums : cost (guard i.rs1) + (cost (Plain i ∷ []) + extra) ≡ cost (guard i.rs1 ++ (Plain i ∷ [])) + extra = omega (arith, sum) in
-        subst (λ l. Onto w bound price N K s (cost (guard i.rs1 ++ (Plain i ∷ [])) + extra) (Into w x s l)) (sym (append_assoc (guard i.rs1) (Plain i ∷ []) rest))
-        (subst (λ n. Onto w bound price N K s n (Into w x s (guard i.rs1 ++ Plain i ∷ rest))) sums
-        (half_leads w bound price (guard i.rs1) (keep_guard is_spare false i.rs1) N K x s s (Plain i ∷ rest) (cost (Plain i ∷ []) + extra)
-        (word class.Load k (λ e. absurd (cc)) (λ st u b. loads w x i u s rest fit b.0 has (steady_calm w.reached s st) k b.1))))
+        subst (λ l. Onto w bound price slip N K s (cost (guard i.rs1 ++ (Plain i ∷ [])) + extra) (Into w x s l)) (sym (append_assoc (guard i.rs1) (Plain i ∷ []) rest))
+        (subst (λ n. Onto w bound price slip N K s n (Into w x s (guard i.rs1 ++ Plain i ∷ rest))) sums
+        (half_leads w bound price slip (guard i.rs1) (keep_guard is_spare false i.rs1) N K x s s (Plain i ∷ rest) (cost (Plain i ∷ []) + extra)
+        (word class.Load k (λ e. absurd (cc)) (inl (inr k, (subst (λ c. IsLowAs c i) k fit.low).0)) (λ st u b. loads w x i u s rest fit b.0 has (steady_calm w.reached s st) k b.1))))
 
-    original_leads : Bare i → Onto w bound price N K s (cost (original i s.pc) + extra) (Into w x s (original i s.pc ++ rest))
+    original_leads : Bare i → Onto w bound price slip N K s (cost (original i s.pc) + extra) (Into w x s (original i s.pc ++ rest))
     original_leads bare = by (is_auipc i.kind) refl where
-      body : is_auipc i.kind ≡ false → IsBodyWord i → Onto w bound price N K s (cost (original_as (class_of i.kind) i s.pc) + extra) (Into w x s (original_as (class_of i.kind) i s.pc ++ rest))
-      body n (body_computes k) = rw k (word class.Compute k (λ e. absurd (cc)) (λ st u b. computes w x i u s rest fit b.0 has (steady_calm w.reached s st) k n b.1))
+      body : is_auipc i.kind ≡ false → IsBodyWord i → Onto w bound price slip N K s (cost (original_as (class_of i.kind) i s.pc) + extra) (Into w x s (original_as (class_of i.kind) i s.pc ++ rest))
+      body n (body_computes k) = rw k (word class.Compute k (λ e. absurd (cc)) (inl (inl k, (subst (λ c. IsLowAs c i) k fit.low).0)) (λ st u b. computes w x i u s rest fit b.0 has (steady_calm w.reached s st) k n b.1))
       body n (body_loads k) = rw k (guarded k)
       body n (body_stores k) = absurd (bare k)
-      body n (body_fences k) = rw k (word class.Fence k (λ e. absurd (cc)) (λ st u b. fences w x i u s rest fit b.0 has (steady_calm w.reached s st) k b.1))
+      body n (body_fences k) = rw k (word class.Fence k (λ e. absurd (cc)) (inr (inr k)) (λ st u b. fences w x i u s rest fit b.0 has (steady_calm w.reached s st) k b.1))
 
       by :
           (b : Bool) → is_auipc i.kind ≡ b
-          → Onto w bound price N K s (cost (cond b (Constant i.rd (target i s.pc) ∷ []) (original_as (class_of i.kind) i s.pc)) + extra)
+          → Onto w bound price slip N K s (cost (cond b (Constant i.rd (target i s.pc) ∷ []) (original_as (class_of i.kind) i s.pc)) + extra)
           (Into w x s (cond b (Constant i.rd (target i s.pc) ∷ []) (original_as (class_of i.kind) i s.pc) ++ rest))
       by true e = let l : IsLowAs class.Compute i = subst (λ c. IsLowAs (class_of c) i) (auipc_is i.kind e) fit.low in auipc (auipc_is i.kind e) l.0
       by false e = body e (body_word i fit)
@@ -334,24 +346,49 @@ module _ (w : World) (bound price : ℕ) where
     lowered_lasts : Lasts w bound price Lowered
     lowered_lasts u v b d = (added_lasts u v b.0 d, d.last ∙ b.1 ∙ ap back (sym d.thirty))
 
+    -- a slip of the mirrored store is a change behind it
+    mirror_slides :
+        IsSteady w.reached s 1 → Slides w bound price (With w bound price (1 + few) (IntoHolding w x (step s) TEMPORARY up (mirrored_store i ∷ rest))) (With w bound price few (Into w x (step s) rest))
+    mirror_slides st m u d j v known sl c =
+        let b = d.0 in
+        let h = d.1 in
+        let twin = ins i.kind 0 TEMPORARY (pair i.rs2) i.imm in
+        slip_elim w twin u v (Stopped slip_steps v ⊎ ((v ≡ step u) ⊎ With w bound price few (Into w x (step s) rest) (m + price) v))
+        (λ y e is. ⊎_elim (λ z. absurd (cc)) (λ z. absurd (cc)) e)
+        (λ e. absurd (cc))
+        (λ dis.
+        ⊎_elim
+        (λ o. absurd (c.quiet 1 (omega arith) (subst (λ y. IsOver y.outcome) (sym (one_run u)) o)))
+        (λ q. inr (inr (into_lasts w bound price x (step s) rest (step u) v q dis, omega (arith, h))))
+        (mirrors w x i s rest fit so has (steady_calm w.reached s st) k (step s) u b.0.0 b.0.1 b.1))
+        (λ e. ⊎_elim (λ z. absurd (cc)) (λ y. ⊎_elim (λ z. absurd (cc)) (λ z. absurd (cc)) y) e)
+        (subst (λ z. Slip w z u v) (sym (same_word w u.pc twin j b.1.0 known)) sl)
+
     -- both stores
-    both_stores : Onto w bound price N K s (1 + extra) (IntoHolding w x s TEMPORARY up stores_to)
+    both_stores : Onto w bound price slip N K s (1 + extra) (IntoHolding w x s TEMPORARY up stores_to)
     both_stores =
         makes x N K s (IntoHolding w x s TEMPORARY up stores_to) Stored (1 + few) (1 + extra) (omega arith) (omega (arith, le))
         (words_last w bound price (Holding w x s TEMPORARY up) stores_to (holding_lasts w bound price x s up)) (λ u q. q.0.0)
         (λ st u b. let one = stores w x i s rest fit so has (steady_calm w.reached s st) k u b.0.0 b.1 in ((one.1.0, ap (λ y. reg y TEMPORARY) one.0 ∙ b.0.1), one.1.1))
+        (λ is.
+        mends_own w bound price (IsSteady w.reached s) (step s) N K (With w bound price (1 + extra) (IntoHolding w x s TEMPORARY up stores_to))
+        (λ m u d. (i, d.0.1.0, inr (inl (k, (subst (λ c. IsLowAs c i) k fit.low).1)))))
         (λ K' h st.
-        leads_word w bound price _ _ N K' Stored (Into w x (step s) rest) few (1 + few) (omega arith)
+        leads_word w bound price slip _ _ N K' Stored (Into w x (step s) rest) few (1 + few) (omega arith)
         (words_last w bound price (Holding w x (step s) TEMPORARY up) (mirrored_store i ∷ rest) (holding_lasts w bound price x (step s) up))
         (λ u b. mirrors w x i s rest fit so has (steady_calm w.reached s st) k (step s) u b.0.0 b.0.1 b.1)
+        (λ is.
+        mends w bound price (IsSteady w.reached (step s)) (step (step s)) N K' (With w bound price (1 + few) Stored) (With w bound price few (Into w x (step s) rest)) (mirror_slides st)
+        (every_plain w bound price slip (IsSteady w.reached (step s)) (step (step s)) N K' (With w bound price few (Into w x (step s) rest)) (on K' h st)))
         (on K' h st)) where
           Stored : State → Type 0
           Stored = IntoHolding w x (step s) TEMPORARY up (mirrored_store i ∷ rest)
 
     -- behind the guard of its value
-    valued : Onto w bound price N K s (cost (guard_value i) + (1 + extra)) (IntoHolding w x s TEMPORARY up (guard_value i ++ stores_to))
+    valued : Onto w bound price slip N K s (cost (guard_value i) + (1 + extra)) (IntoHolding w x s TEMPORARY up (guard_value i ++ stores_to))
     valued =
-        leads_keep w bound price (but TEMPORARY) false (Holding w x s TEMPORARY up) (holding_keeps w x s TEMPORARY up refl) (holding_lasts w bound price x s up) N K s stores_to (1 + extra) both_stores (guard_value i)
+        leads_keep w bound price slip (but TEMPORARY) false (Holding w x s TEMPORARY up) (holding_keeps w x s TEMPORARY up refl) (holding_lasts w bound price x s up)
+        (λ u r y p a e. (half_spare w x s u r y p (and_parts _ _ e).0 a.0, but_other w u.regs TEMPORARY r y e ∙ a.1)) N K s stores_to (1 + extra) both_stores (guard_value i)
         (by (i.rs2 == i.rs1)) where
           by : (b : Bool) → Keep (but TEMPORARY) false (cond b [] (guard i.rs2))
           by true = tt
@@ -391,24 +428,75 @@ module _ (w : World) (bound price : ℕ) where
           lift : (y d r : ℕ) → d < 2 ^ 64 → y < 2 ^ 64 → r ≡ (y + (2 ^ 64 - d)) % 2 ^ 64 → y ≡ (r + d) % 2 ^ 64
           lift y d r h g e = omega (arith, h, g, e)
 
+    abbrev check : List Item
+    check = Plain (ins Beq 0 i.rs1 SPARE (pos 8)) ∷ fired_check ∷ guard_value i ++ stores_to
+
+    abbrev minus : List Item
+    minus = Plain subs ∷ check
+
+    -- where the run without a slip of the subtraction passes the comparison, x30 is right already
+    right : (u : State) → Added u → Reads false w.code w.entry u.pc minus → Calm w u → reg u TEMPORARY ≡ up
+    right u a r c =
+        let v = result Sub subs u in
+        let y = moved (set_reg SPARE v u.regs) (u.pc + 4) u in
+        let o = half_over w x s u a.0 in
+        let is : step u ≡ y = steps_to w subs u o r.0 refl in
+        let b : Lowered y = lowers u (u.pc + 4) a in
+        let same : reg y TEMPORARY ≡ reg u TEMPORARY = slice_index-set_reg_other u.regs SPARE v TEMPORARY (λ e. absurd (omega (arith, e))) in
+        ⊎_elim
+        (λ f.
+        let three : run u 3 ≡ step (step y) = run-three u ∙ ap (λ z. step (step z)) is in
+        absurd (c.quiet 3 (omega arith) (subst (λ z. IsOver z.outcome) (sym three) (firing_over w (step y) f.0))))
+        (λ g. sym same ∙ raised y b g.1)
+        (compare_step w y i.rs1 SPARE (half_over w x s y b.0.0) r.1.0 r.1.1.0)
+
     -- from its first word
-    addressed : Onto w bound price N K s (3 + (cost (guard_value i) + (1 + extra))) (Into w x s (store_part i ++ rest))
+    addressed : Onto w bound price slip N K s (3 + (cost (guard_value i) + (1 + extra))) (Into w x s (store_part i ++ rest))
     addressed =
-        subst (λ l. Onto w bound price N K s (3 + n) (Into w x s (Plain adds ∷ Plain subs ∷ Plain (ins Beq 0 i.rs1 SPARE (pos 8)) ∷ fired_check ∷ l)))
+        subst (λ l. Onto w bound price slip N K s (3 + n) (Into w x s (Plain adds ∷ Plain subs ∷ Plain (ins Beq 0 i.rs1 SPARE (pos 8)) ∷ fired_check ∷ l)))
         (sym (append_assoc (guard_value i) (Plain i ∷ mirrored_store i ∷ []) rest))
-        (leads_compute w bound price _ _ N K adds (Half w x s) Added minus (2 + n) (3 + n) (omega arith) refl (half_lasts w bound price x s) (λ u a. half_over w x s u a) sums
-        (leads_compute w bound price _ _ N K subs Added Lowered check (1 + n) (2 + n) (omega arith) refl added_lasts (λ u a. half_over w x s u a.0) lowers
-        (leads_compare w bound price N K s i.rs1 SPARE Lowered (Holding w x s TEMPORARY up) (guard_value i ++ stores_to) n (1 + n) (omega arith) lowered_lasts (λ u b. half_over w x s u b.0.0)
-        (λ u p b e. (half_moved w x s u p b.0.0, raised u b e))
-        valued))) where
+        (leads_compute w bound price slip S t N K adds (Half w x s) Added minus (2 + n) (3 + n) (omega arith) refl (half_lasts w bound price x s) (λ u a. half_over w x s u a) sums
+        (λ is. mends_gives w bound price S t N K adds (Half w x s) Added minus (2 + n) (3 + n) (inl refl) (omega arith) any_sum (every_plain w bound price slip S t N K (With w bound price (2 + n) (Before_words w bound price Added minus)) lowered))
+        lowered) where
           n : ℕ
           n = cost (guard_value i) + (1 + extra)
 
-          check : List Item
-          check = Plain (ins Beq 0 i.rs1 SPARE (pos 8)) ∷ fired_check ∷ guard_value i ++ stores_to
+          S : ℕ → Type 0
+          S = IsSteady w.reached s
 
-          minus : List Item
-          minus = Plain subs ∷ check
+          t : State
+          t = step s
+
+          H : State → Type 0
+          H = Holding w x s TEMPORARY up
+
+          any_sum : (u : State) (y p : ℕ) → Half w x s u → 14 ≤ TEMPORARY → y < 2 ^ 64 → Calm w u → w.code u.pc ≡ Known adds → Added (moved (set_reg TEMPORARY y u.regs) p u)
+          any_sum u y p a h l c known =
+              let long = a.standing.flagged.regs in
+              let same : slice_index (set_reg TEMPORARY y u.regs) TEMPORARY ≡ y = slice_index-set_reg_same u.regs TEMPORARY y (omega arith) (omega (arith, long)) in
+              (half_spare w x s u TEMPORARY y p refl a, omega (arith, same, l))
+
+          -- behind any difference
+          held : EveryOf w bound price false S t N K (With w bound price (1 + n) (Before_words w bound price H check))
+          held =
+              leads_compare w bound price false N K s i.rs1 SPARE H H (guard_value i ++ stores_to) n (1 + n) (omega arith) (holding_lasts w bound price x s up) (λ u b. half_over w x s u b.0)
+              (λ u p b e. (half_moved w x s u p b.0, b.1))
+              (every_plain w bound price slip S t N K (With w bound price n (Before_words w bound price H (guard_value i ++ stores_to))) valued)
+
+          slides : Slides w bound price (With w bound price (2 + n) (Before_words w bound price Added minus)) (With w bound price (1 + n) (Before_words w bound price H check))
+          slides m u d j v known sl c =
+              let h = d.1 in
+              let g = slip_gives w subs u v (inl refl) (subst (λ z. Slip w z u v) (sym (same_word w u.pc subs j d.0.1.0 known)) sl) in
+              let other : slice_index (set_reg SPARE g.1.0 u.regs) TEMPORARY ≡ reg u TEMPORARY = slice_index-set_reg_other u.regs SPARE g.1.0 TEMPORARY (λ e. absurd (omega (arith, e))) in
+              inr (inr (subst (Before_words w bound price H check) (sym g.1.2) ((half_spare w x s u SPARE g.1.0 (u.pc + 4) refl d.0.0.0, other ∙ right u d.0.0 d.0.1 c), d.0.1.1), omega (arith, h)))
+
+          lowered : Onto w bound price slip N K s (2 + n) (Before_words w bound price Added minus)
+          lowered =
+              leads_compute w bound price slip S t N K subs Added Lowered check (1 + n) (2 + n) (omega arith) refl added_lasts (λ u a. half_over w x s u a.0) lowers
+              (λ is. mends w bound price S t N K (With w bound price (2 + n) (Before_words w bound price Added minus)) (With w bound price (1 + n) (Before_words w bound price H check)) slides held)
+              (leads_compare w bound price slip N K s i.rs1 SPARE Lowered H (guard_value i ++ stores_to) n (1 + n) (omega arith) lowered_lasts (λ u b. half_over w x s u b.0.0)
+              (λ u p b e. (half_moved w x s u p b.0.0, raised u b e))
+              valued)
 
   -- ---- enough steps
   -- for all that stands there; or n instructions stand there, and the first gives the bound anew
@@ -421,59 +509,59 @@ module _ (w : World) (bound price : ℕ) where
   -- the original part of an instruction without a store
   bare_ready :
       (x : ℕ) (i : Ins) (s : State) (rest : List Item) (N K few many : ℕ) → Enough 1 (cost (original i s.pc) + few) many → FitsPiece i → Sourced w s → w.source s.pc ≡ Known i → Bare i
-      → Onward N K few s (Into w x (step s) rest) → Onto w bound price N K s many (Into w x s (original i s.pc ++ rest))
+      → Onward N K few s (Into w x (step s) rest) → Onto w bound price slip N K s many (Into w x s (original i s.pc ++ rest))
   bare_ready x i s rest N K few many enough fit so has bare on =
       let n = cost (original i s.pc) in
       let two = original_few i s.pc bare in
-      let by : (e : ℕ) → few ≤ e + bound → n + e ≤ many → Onto w bound price N K s many (Into w x s (original i s.pc ++ rest)) =
-      λ e le h. leads_more w bound price N K s (Into w x s (original i s.pc ++ rest)) (n + e) many h (original_leads x i s rest N K few e le fit so has on bare) in
+      let by : (e : ℕ) → few ≤ e + bound → n + e ≤ many → Onto w bound price slip N K s many (Into w x s (original i s.pc ++ rest)) =
+      λ e le h. leads_more w bound price slip N K s (Into w x s (original i s.pc ++ rest)) (n + e) many h (original_leads x i s rest N K few e le fit so has on bare) in
       ⊎_elim (λ h. by few (omega arith) h) (λ b. let h = b.2 in let g = b.3 in by b.1 (omega (arith, g)) (omega (arith, two, h))) enough
 
   -- a store
   store_ready :
       (x : ℕ) (i : Ins) (s : State) (rest : List Item) (N K few many : ℕ) → Enough 1 (cost (store_part i) + few) many → FitsPiece i → Sourced w s → w.source s.pc ≡ Known i
-      → class_of i.kind ≡ class.Store → Onward N K few s (Into w x (step s) rest) → Onto w bound price N K s many (Into w x s (store_part i ++ rest))
+      → class_of i.kind ≡ class.Store → Onward N K few s (Into w x (step s) rest) → Onto w bound price slip N K s many (Into w x s (store_part i ++ rest))
   store_ready x i s rest N K few many enough fit so has k on =
       let n = cost (guard_value i) in
       let one = value_few i in
       let all = store_cost i k in
-      let by : (e : ℕ) → 1 + few ≤ e + bound → 3 + (n + (1 + e)) ≤ many → Onto w bound price N K s many (Into w x s (store_part i ++ rest)) =
-      λ e le h. leads_more w bound price N K s (Into w x s (store_part i ++ rest)) (3 + (n + (1 + e))) many h (addressed x i s rest N K few e le fit so has k on) in
+      let by : (e : ℕ) → 1 + few ≤ e + bound → 3 + (n + (1 + e)) ≤ many → Onto w bound price slip N K s many (Into w x s (store_part i ++ rest)) =
+      λ e le h. leads_more w bound price slip N K s (Into w x s (store_part i ++ rest)) (3 + (n + (1 + e))) many h (addressed x i s rest N K few e le fit so has k on) in
       ⊎_elim (λ h. by (1 + few) (omega arith) (omega (arith, h, all))) (λ b. let h = b.2 in let g = b.3 in by b.1 (omega (arith, g, all)) (omega (arith, one, h))) enough
 
   -- ---- several instructions without a store
   -- their original parts
   originals_ready :
       (x : ℕ) (is : List Ins) (s : State) (rest : List Item) (N K most many : ℕ) → Enough (length is) (cost (each_part original is s.pc) + most) many → AllFit is → AllBare w is → Sourced w s
-      → HasAt w.source s.pc is → Follows x N K (length is) most s rest → Onto w bound price N K s many (Into w x s (each_part original is s.pc ++ rest))
+      → HasAt w.source s.pc is → Follows x N K (length is) most s rest → Onto w bound price slip N K s many (Into w x s (each_part original is s.pc ++ rest))
   unfolding run
   originals_ready x [] s rest N K most many enough f b so h on =
-      leads_more w bound price N K s (Into w x s rest) most many
+      leads_more w bound price slip N K s (Into w x s rest) most many
       (⊎_elim (λ e. omega (arith, e)) (λ e. absurd (let z = e.0 in omega (arith, z))) enough)
       (on K (omega arith) (steady_none w.reached s so.over.going))
   originals_ready x (i ∷ is) s rest N K most many enough f b so h on =
       let sum = cost_append (original i s.pc) (each_part original is (s.pc + 4)) in
       let few = cost (each_part original is (s.pc + 4)) + most in
-      subst (λ l. Onto w bound price N K s many (Into w x s l)) (sym (append_assoc (original i s.pc) (each_part original is (s.pc + 4)) rest))
+      subst (λ l. Onto w bound price slip N K s many (Into w x s l)) (sym (append_assoc (original i s.pc) (each_part original is (s.pc + 4)) rest))
       (bare_ready x i s (each_part original is (s.pc + 4) ++ rest) N K few many
       (enough_as (suc (length is)) 1 _ (cost (original i s.pc) + few) many (λ one. omega arith) (omega (arith, sum)) enough) f.0 so h.0 b.0
       (λ K' le st.
       let k = next_of w s i is f.0 so h (steady_calm w.reached s st) in
-      subst (λ p. Onto w bound price N K' (step s) (cost (each_part original is p) + most) (Into w x (step s) (each_part original is p ++ rest))) k.pc
+      subst (λ p. Onto w bound price slip N K' (step s) (cost (each_part original is p) + most) (Into w x (step s) (each_part original is p ++ rest))) k.pc
       (originals_ready x is (step s) rest N K' most (cost (each_part original is (step s).pc) + most) (inl (omega arith)) f.1 b.1 k.sourced k.has
       (λ K'' le' st'. on K'' (omega (arith, le, le')) (steady_first w.reached s (length is) st st')))))
 
   -- both parts
   both_ready :
       (other : Bool) (x : ℕ) (is : List Ins) (s : State) (rest : List Item) (N K most many : ℕ) → Enough (length is) (cost (both_parts other is s.pc) + most) many → AllFit is → AllBare w is
-      → Sourced w s → HasAt w.source s.pc is → Follows x N K (length is) most s rest → Onto w bound price N K s many (Into w x s (both_parts other is s.pc ++ rest))
+      → Sourced w s → HasAt w.source s.pc is → Follows x N K (length is) most s rest → Onto w bound price slip N K s many (Into w x s (both_parts other is s.pc ++ rest))
   both_ready other x is s rest N K most many enough f b so h on =
       let mirrors = each_part (mirror_of other) is s.pc in
       let sum = cost_append (each_part original is s.pc) mirrors in
-      subst (λ l. Onto w bound price N K s many (Into w x s l)) (sym (append_assoc (each_part original is s.pc) mirrors rest))
+      subst (λ l. Onto w bound price slip N K s many (Into w x s l)) (sym (append_assoc (each_part original is s.pc) mirrors rest))
       (originals_ready x is s (mirrors ++ rest) N K (cost mirrors + most) many
       (enough_as (length is) (length is) _ (cost (each_part original is s.pc) + (cost mirrors + most)) many (λ one. one) (omega (arith, sum)) enough) f b so h
-      (λ K' le st. half_leads w bound price mirrors (mirrors_keep w other is s.pc f b) N K' x (run s (length is)) (run s (length is)) rest most (on K' le st)))
+      (λ K' le st. half_leads w bound price slip mirrors (mirrors_keep w other is s.pc f b) N K' x (run s (length is)) (run s (length is)) rest most (on K' le st)))
 
   -- ---- a piece
   -- steps before a store that are enough for what stands before it, and for what begins with it
@@ -494,7 +582,7 @@ module _ (w : World) (bound price : ℕ) where
   with_ready :
       (other : Bool) (x : ℕ) (is begun : List Ins) (s : State) (rest : List Item) (N K most many : ℕ)
       → Enough (length begun + length is) (cost (parts_with other begun s.pc is) + most) many → AllFit (begun ++ is) → AllBare w begun → Sourced w s → HasAt w.source s.pc (begun ++ is)
-      → Follows x N K (length begun + length is) most s rest → Onto w bound price N K s many (Into w x s (parts_with other begun s.pc is ++ rest))
+      → Follows x N K (length begun + length is) most s rest → Onto w bound price slip N K s many (Into w x s (parts_with other begun s.pc is ++ rest))
   with_ready other x [] begun s rest N K most many enough f b so h on =
       let none : length begun + 0 ≡ length begun = omega arith in
       both_ready other x begun s rest N K most many (subst (λ n. Enough n (cost (both_parts other begun s.pc) + most) many) none enough)
@@ -519,7 +607,7 @@ module _ (w : World) (bound price : ℕ) where
         Again : Type 0
         Again =
             (t : State) (L : ℕ) → AllFit is → Unit {0} → Sourced w t → HasAt w.source t.pc is → Follows x N L (length {A = Ins} [] + length is) most t rest
-            → Onto w bound price N L t (cost (parts_with other [] t.pc is) + most) (Into w x t (parts_with other [] t.pc is ++ rest))
+            → Onto w bound price slip N L t (cost (parts_with other [] t.pc is) + most) (Into w x t (parts_with other [] t.pc is ++ rest))
 
         -- what follows a store: the steps of the first n instructions, of the store and of those behind it
         joins : (L : ℕ) → L + 1 + n ≤ K → IsSteady w.reached s n → IsSteady w.reached (run s n) 1 → Follows x N L (length {A = Ins} [] + length is) most (step (run s n)) rest
@@ -528,13 +616,13 @@ module _ (w : World) (bound price : ℕ) where
             let none : length {A = Ins} [] + length is ≡ length is = omega arith in
             let ends : run s (n + suc (length is)) ≡ run (step t) (length {A = Ins} [] + length is) =
             run-more s n (suc (length is)) ∙ run-step t (length is) ∙ ap (run (step t)) (sym none) in
-            subst (λ z. Onto w bound price N K' z most (Into w x z rest)) ends
+            subst (λ z. Onto w bound price slip N K' z most (Into w x z rest)) ends
             (on K' (omega (arith, le, h)) (steady_join w.reached s n (suc (length is)) st (steady_first w.reached t (length is) st1 (subst (IsSteady w.reached (step t)) none st2))))
 
         -- a store
         on_store :
             class_of i.kind ≡ class.Store → Again → Enough (n + suc (length is)) (cost front + need) many
-            → Onto w bound price N K s many (Into w x s (front ++ (store_part i ++ (behind ++ rest))))
+            → Onto w bound price slip N K s many (Into w x s (front ++ (store_part i ++ (behind ++ rest))))
         on_store k again enough =
             let split = split_enough begun is (cost front) need many (no_parts other begun s.pc) enough in
             let fits = fit_front w begun (i ∷ is) f in
@@ -547,7 +635,7 @@ module _ (w : World) (bound price : ℕ) where
             (λ K2 le1 st1.
             let k2 = next_of w t i is fits.1.0 p.sourced has (steady_calm w.reached t st1) in
             let there : (step t).pc ≡ s.pc + 4 * n + 4 = k2.pc ∙ ap (λ z. z + 4) p.pc in
-            subst (λ a. Onto w bound price N K2 (step t) (cost (parts_with other [] a is) + most) (Into w x (step t) (parts_with other [] a is ++ rest))) there
+            subst (λ a. Onto w bound price slip N K2 (step t) (cost (parts_with other [] a is) + most) (Into w x (step t) (parts_with other [] a is ++ rest))) there
             (again (step t) K2 fits.1.1 tt k2.sourced k2.has (joins K2 (omega (arith, le, le1)) st st1))))
 
         by :
@@ -555,12 +643,12 @@ module _ (w : World) (bound price : ℕ) where
             → Enough (n + suc (length is)) (cost (cond c (front ++ (store_part i ++ behind)) (parts_with other (begun ++ i ∷ []) s.pc is)) + most) many → Again
             → (Enough (length (begun ++ i ∷ []) + length is) (cost (parts_with other (begun ++ i ∷ []) s.pc is) + most) many → AllFit ((begun ++ i ∷ []) ++ is) → AllBare w (begun ++ i ∷ [])
             → Sourced w s → HasAt w.source s.pc ((begun ++ i ∷ []) ++ is) → Follows x N K (length (begun ++ i ∷ []) + length is) most s rest
-            → Onto w bound price N K s many (Into w x s (parts_with other (begun ++ i ∷ []) s.pc is ++ rest)))
-            → Onto w bound price N K s many (Into w x s (cond c (front ++ (store_part i ++ behind)) (parts_with other (begun ++ i ∷ []) s.pc is) ++ rest))
+            → Onto w bound price slip N K s many (Into w x s (parts_with other (begun ++ i ∷ []) s.pc is ++ rest)))
+            → Onto w bound price slip N K s many (Into w x s (cond c (front ++ (store_part i ++ behind)) (parts_with other (begun ++ i ∷ []) s.pc is) ++ rest))
         by true e enough again push =
             let one = cost_append front (store_part i ++ behind) in
             let two = cost_append (store_part i) behind in
-            subst (λ l. Onto w bound price N K s many (Into w x s l)) (sym (append_assoc front (store_part i ++ behind) rest ∙ ap (λ l. front ++ l) (append_assoc (store_part i) behind rest)))
+            subst (λ l. Onto w bound price slip N K s many (Into w x s l)) (sym (append_assoc front (store_part i ++ behind) rest ∙ ap (λ l. front ++ l) (append_assoc (store_part i) behind rest)))
             (on_store (is_store_class (class_of i.kind) e) again (enough_as _ (n + suc (length is)) _ (cost front + need) many (λ some. some) (omega (arith, one, two)) enough))
         by false e enough again push =
             let pushed = append_assoc begun (i ∷ []) is in
@@ -573,7 +661,7 @@ module _ (w : World) (bound price : ℕ) where
   -- before its first instruction five steps and `e` are enough, since the instruction gives the bound anew
   pub piece_leads :
       (other : Bool) (x : ℕ) (is : List Ins) (s : State) (rest : List Item) (N K most e : ℕ) → 1 ≤ length is → AllFit is → Sourced w s → HasAt w.source s.pc is
-      → cost (piece other is s.pc) + most ≤ e + bound → Follows x N K (length is) most s rest → Onto w bound price N K s (5 + e) (Into w x s (piece other is s.pc ++ rest))
+      → cost (piece other is s.pc) + most ≤ e + bound → Follows x N K (length is) most s rest → Onto w bound price slip N K s (5 + e) (Into w x s (piece other is s.pc ++ rest))
   piece_leads other x is s rest N K most e some fit so h le on =
       let none : length is ≡ length {A = Ins} [] + length is = omega arith in
       with_ready other x is [] s rest N K most (5 + e) (inr (omega (arith, some), e, omega arith, le)) fit tt so h (subst (λ n. Follows x N K n most s rest) none on)

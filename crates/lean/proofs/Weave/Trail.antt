@@ -17,11 +17,11 @@ use Rattle.weave_core.specs.WeaveLaws.{Met}
 use Rattle.weave_core.specs.World.{World, Program, Going, Memory, get, put, allows, memory_of, byte_at, offset, State, set_reg, step, run, fetched_at}
 use Rattle.lean.specs.Strayed.{IsOver}
 use Rattle.lean.specs.Undisturbed.{IsDuplicate, InDuplicate, AllDuplicate}
-use Rattle.lean.proofs.Weave.Carry.{same_fetch, flags-put, Standing, standing_step, slice_index-set_reg_other, length-set_reg, get-put_outside, allows-flags}
+use Rattle.lean.proofs.Weave.Carry.{run-last, run-more, run-none, same_fetch, flags-put, Standing, standing_step, slice_index-set_reg_other, length-set_reg, get-put_outside, allows-flags}
 use Rattle.lean.proofs.Weave.Robust.{Disturbed, Robust}
 
 -- ---- states that do not go on
-over_stops : (o : Outcome) → IsOver o → o ≡ Going → ⊥
+pub over_stops : (o : Outcome) → IsOver o → o ≡ Going → ⊥
 over_stops o h e = ⊎_elim (λ f. absurd (cc)) (λ t. absurd (going_no_trap o t e)) h where
   going_no_trap : (o : Outcome) → is_trapped o ≡ true → o ≡ Going → ⊥
   going_no_trap o t e = false≢true (sym (ap is_trapped e) ∙ t)
@@ -32,7 +32,7 @@ changed_stopped Ended c s h = refl
 changed_stopped Fired c s h = refl
 changed_stopped (Trapped k p) c s h = refl
 
-step_stopped : (s : State) → (s.outcome ≡ Going → ⊥) → step s ≡ s
+pub step_stopped : (s : State) → (s.outcome ≡ Going → ⊥) → step s ≡ s
 unfolding step
 step_stopped s h = at s.outcome h where
   at : (o : Outcome) → (o ≡ Going → ⊥) → step_at o s ≡ s
@@ -40,6 +40,21 @@ step_stopped s h = at s.outcome h where
   at Ended h = refl
   at Fired h = refl
   at (Trapped k p) h = refl
+
+-- a run that is over does not end later
+pub over_ends : (v : State) (j i : ℕ) → j ≤ i → IsOver (run v j).outcome → (run v i).outcome ≡ Ended → ⊥
+over_ends v j i h o e =
+    let k : i ≡ j + (i - j) = omega (arith, h) in
+    let same : run v i ≡ run v j = ap (run v) k ∙ run-more v j (i - j) ∙ stays (run v j) (i - j) o in
+    over_not_ended (run v j).outcome o (ap (λ z. z.outcome) (sym same) ∙ e) where
+      stays : (s : State) (n : ℕ) → IsOver s.outcome → run s n ≡ s
+      stays s zero o = run-none s
+      stays s (suc n) o =
+          let k : suc n ≡ n + 1 = omega arith in
+          ap (run s) k ∙ run-last s n ∙ ap step (stays s n o) ∙ step_stopped s (λ g. over_stops s.outcome o g)
+
+      over_not_ended : (o : Outcome) → IsOver o → o ≡ Ended → ⊥
+      over_not_ended o h e = ⊎_elim (λ f. absurd (let z : Fired ≡ Ended = sym f ∙ e in cc)) (λ t. absurd (false≢true (sym (ap is_trapped e) ∙ t))) h
 
 module _ (w : World) where
   -- ---- runs with changes
@@ -84,7 +99,7 @@ module _ (w : World) where
   -- ---- robust states
   module _ (bound price : ℕ) where
     abbrev Plays : ℕ → ℕ → State → ℕ → State → Type 0
-    Plays n k t m u = Robust w bound price n k t m u
+    Plays n k t m u = Robust w bound price false n k t m u
 
     robust_less : (n n' k : ℕ) (t : State) (m : ℕ) (u : State) → n' ≤ n → Plays n k t m u → Plays n' k t m u
     unfolding Robust
@@ -93,7 +108,7 @@ module _ (w : World) where
     robust_less (suc n) (suc n') zero t m u h r = tt
     robust_less (suc n) (suc n') (suc k) t m u h r = (
       ⊎_elim (λ o. inl o) (λ z. inr (z.0, z.1, ⊎_elim (λ a. inl (robust_less n n' (suc k) t z.0 (step u) (omega (arith, h)) a)) (λ b. inr (b.0, robust_less n n' k (step t) (z.0 + bound) (step u) (omega (arith, h)) b.1)) z.2)) r.0,
-      λ v one d. robust_less n n' (suc k) t (m + price) v (omega (arith, h)) (r.1 v one d),
+      (λ v one d. robust_less n n' (suc k) t (m + price) v (omega (arith, h)) (r.1.0 v one d), λ e. absurd (false≢true e)),
     )
 
     pub robust_more : (n k : ℕ) (t : State) (m m' : ℕ) (u : State) → m ≤ m' → Plays n k t m u → Plays n k t m' u
@@ -102,7 +117,7 @@ module _ (w : World) where
     robust_more (suc n) zero t m m' u h r = tt
     robust_more (suc n) (suc k) t m m' u h r = (
       ⊎_elim (λ o. inl o) (λ z. let e = z.1 in inr (m' - 1, omega (arith, h, e), ⊎_elim (λ a. inl (robust_more n (suc k) t z.0 (m' - 1) (step u) (omega (arith, h, e)) a)) (λ b. inr (b.0, robust_more n k (step t) (z.0 + bound) (m' - 1 + bound) (step u) (omega (arith, h, e)) b.1)) z.2)) r.0,
-      λ v one d. robust_more n (suc k) t (m + price) (m' + price) v (omega (arith, h)) (r.1 v one d),
+      (λ v one d. robust_more n (suc k) t (m + price) (m' + price) v (omega (arith, h)) (r.1.0 v one d), λ e. absurd (false≢true e)),
     )
 
     -- behind a change, which is one move
@@ -110,7 +125,7 @@ module _ (w : World) where
     unfolding Robust
     robust_disturbed zero k t m u v h d r = tt
     robust_disturbed (suc n) zero t m u v h d r = tt
-    robust_disturbed (suc n) (suc k) t m u v h d r = r.1 v h d
+    robust_disturbed (suc n) (suc k) t m u v h d r = r.1.0 v h d
 
   -- ---- the run
   -- from its step j on, it comes to k states of the input from t on
@@ -121,36 +136,9 @@ module _ (w : World) where
     pub within : (i : ℕ) → i < k → at i ≤ most + i * bound
     pub values : (i : ℕ) → i < k → IsOver (y (at i)).outcome ⊎ Met w (y (at i)) (run t i)
 
-  module _ (bound price : ℕ) (some : 1 ≤ bound) (y : ℕ → State) (all : ℕ) (paid : 1 ≤ all → bound ≤ price) (played : Played y all) where
-    -- steps that changes may still cost
-    abbrev left : ℕ → ℕ
-    left j = (all - played.made j) * price
-
-    left_less : (j : ℕ) → played.made j ≤ played.made (suc j) → left (suc j) ≤ left j
-    left_less j h = mul-le-mul_right price (let e = h in omega (arith, e))
-
-    left_paid : (j : ℕ) → suc (played.made j) ≤ played.made (suc j) → price + left (suc j) ≤ left j
-    left_paid j h =
-        let few = played.few (suc j) in
-        let e : price + (all - played.made (suc j)) * price ≡ suc (all - played.made (suc j)) * price = omega arith in
-        let le : suc (all - played.made (suc j)) * price ≤ (all - played.made j) * price = mul-le-mul_right price (omega (arith, h, few)) in
-        omega (arith, e, le)
-
-    -- a run that is over stays
-    stays : (j i : ℕ) → IsOver (y j).outcome → IsOver (y (j + i)).outcome
-    stays j zero o = let e : j ≡ j + 0 = omega arith in subst (λ z. IsOver (y z).outcome) e o
-    stays j (suc i) o =
-        let e : suc (j + i) ≡ j + suc i = omega arith in
-        let before = stays j i o in
-        let same = step_stopped (y (j + i)) (λ g. over_stops (y (j + i)).outcome before g) in
-        subst (λ z. IsOver (y z).outcome) e
-        (⊎_elim
-        (λ a. subst (λ z. IsOver z.outcome) (sym (a.0 ∙ same)) before)
-        (λ a. absurd (over_stops (step (y (j + i))).outcome (subst (λ z. IsOver z.outcome) (sym same) before) a.0.before))
-        (played.goes (j + i)))
-
+  module _ (bound : ℕ) (y : ℕ → State) where
     -- no state more is asked for
-    meets_none : (j : ℕ) (t : State) (most : ℕ) → Meets y j 0 t most bound
+    pub meets_none : (j : ℕ) (t : State) (most : ℕ) → Meets y j 0 t most bound
     meets_none j t most = record {
       at = λ i. 0;
       later = λ i h. absurd (omega (arith, h));
@@ -159,23 +147,8 @@ module _ (w : World) where
       values = λ i h. absurd (omega (arith, h));
     }
 
-    -- it is over at its next step
-    meets_over : (j k : ℕ) (t : State) (most : ℕ) → j + 1 ≤ most → IsOver (step (y j)).outcome → Meets y j k t most bound
-    meets_over j k t most h o = record {
-      at = λ i. suc j + i;
-      later = λ i l. omega arith;
-      grows = λ i l. omega arith;
-      within = λ i l. few i;
-      values = λ i l. inl (stays (suc j) i over);
-    } where
-      few : (i : ℕ) → suc j + i ≤ most + i * bound
-      few i = let k = mul-le-mul_left i some in omega (arith, h, k)
-
-      over : IsOver (y (suc j)).outcome
-      over = ⊎_elim (λ a. subst (λ z. IsOver z.outcome) (sym a.0) o) (λ a. absurd (over_stops (step (y j)).outcome o a.0.before)) (played.goes j)
-
     -- the next step makes the first state
-    meets_first : (j k : ℕ) (t : State) (most : ℕ) → suc j ≤ most → Met w (y (suc j)) t → Meets y (suc j) k (step t) (most + bound) bound → Meets y j (suc k) t most bound
+    pub meets_first : (j k : ℕ) (t : State) (most : ℕ) → suc j ≤ most → Met w (y (suc j)) t → Meets y (suc j) k (step t) (most + bound) bound → Meets y j (suc k) t most bound
     unfolding run
     meets_first j k t most h m r = record {
       at = at;
@@ -205,17 +178,60 @@ module _ (w : World) where
       values (suc i) l = r.values i (omega (arith, l))
 
     -- a step that makes none
-    meets_later : (j k : ℕ) (t : State) (most : ℕ) → Meets y (suc j) k t most bound → Meets y j k t most bound
+    pub meets_later : (j k : ℕ) (t : State) (most : ℕ) → Meets y (suc j) k t most bound → Meets y j k t most bound
     meets_later j k t most r = record { at = r.at; later = λ i l. (let e = r.later i l in omega (arith, e)); grows = r.grows; within = r.within; values = r.values }
 
-    meets_more : (j k : ℕ) (t : State) (few many : ℕ) → few ≤ many → Meets y j k t few bound → Meets y j k t many bound
+    pub meets_more : (j k : ℕ) (t : State) (few many : ℕ) → few ≤ many → Meets y j k t few bound → Meets y j k t many bound
     meets_more j k t few many h r = record { at = r.at; later = r.later; grows = r.grows; within = λ i l. (let e = r.within i l in omega (arith, e, h)); values = r.values }
 
+  module _ (bound price : ℕ) (some : 1 ≤ bound) (y : ℕ → State) (all : ℕ) (paid : 1 ≤ all → bound ≤ price) (played : Played y all) where
+    -- steps that changes may still cost
+    abbrev left : ℕ → ℕ
+    left j = (all - played.made j) * price
+
+    left_less : (j : ℕ) → played.made j ≤ played.made (suc j) → left (suc j) ≤ left j
+    left_less j h = mul-le-mul_right price (let e = h in omega (arith, e))
+
+    left_paid : (j : ℕ) → suc (played.made j) ≤ played.made (suc j) → price + left (suc j) ≤ left j
+    left_paid j h =
+        let few = played.few (suc j) in
+        let e : price + (all - played.made (suc j)) * price ≡ suc (all - played.made (suc j)) * price = omega arith in
+        let le : suc (all - played.made (suc j)) * price ≤ (all - played.made j) * price = mul-le-mul_right price (omega (arith, h, few)) in
+        omega (arith, e, le)
+
+    -- a run that is over stays
+    stays : (j i : ℕ) → IsOver (y j).outcome → IsOver (y (j + i)).outcome
+    stays j zero o = let e : j ≡ j + 0 = omega arith in subst (λ z. IsOver (y z).outcome) e o
+    stays j (suc i) o =
+        let e : suc (j + i) ≡ j + suc i = omega arith in
+        let before = stays j i o in
+        let same = step_stopped (y (j + i)) (λ g. over_stops (y (j + i)).outcome before g) in
+        subst (λ z. IsOver (y z).outcome) e
+        (⊎_elim
+        (λ a. subst (λ z. IsOver z.outcome) (sym (a.0 ∙ same)) before)
+        (λ a. absurd (over_stops (step (y (j + i))).outcome (subst (λ z. IsOver z.outcome) (sym same) before) a.0.before))
+        (played.goes (j + i)))
+
+    -- it is over at its next step
+    meets_over : (j k : ℕ) (t : State) (most : ℕ) → j + 1 ≤ most → IsOver (step (y j)).outcome → Meets y j k t most bound
+    meets_over j k t most h o = record {
+      at = λ i. suc j + i;
+      later = λ i l. omega arith;
+      grows = λ i l. omega arith;
+      within = λ i l. few i;
+      values = λ i l. inl (stays (suc j) i over);
+    } where
+      few : (i : ℕ) → suc j + i ≤ most + i * bound
+      few i = let k = mul-le-mul_left i some in omega (arith, h, k)
+
+      over : IsOver (y (suc j)).outcome
+      over = ⊎_elim (λ a. subst (λ z. IsOver z.outcome) (sym a.0) o) (λ a. absurd (over_stops (step (y j)).outcome o a.0.before)) (played.goes j)
+
     pub follows :
-        (fuel n j k : ℕ) (t : State) (m : ℕ) → Robust w bound price n k t m (y j) → fuel * 2 ≤ n → suc (m + k * bound + left j) ≤ fuel
+        (fuel n j k : ℕ) (t : State) (m : ℕ) → Robust w bound price false n k t m (y j) → fuel * 2 ≤ n → suc (m + k * bound + left j) ≤ fuel
         → Meets y j k t (suc (j + m + left j)) bound
     unfolding Robust
-    follows fuel n j zero t m r h f = meets_none j t (suc (j + m + left j))
+    follows fuel n j zero t m r h f = meets_none bound y j t (suc (j + m + left j))
     follows zero n j (suc k) t m r h f = absurd (omega (arith, f))
     follows (suc fuel) zero j (suc k) t m r h f = absurd (omega (arith, h))
     follows (suc fuel) (suc n) j (suc k) t m r h f =
@@ -229,22 +245,22 @@ module _ (w : World) where
         let on = next (suc k) t b q in
         let fits = on.2 in
         let rest = follows fuel (fuel * 2) (suc j) (suc k) t on.0 on.1 (omega arith) (omega (arith, e, f, fits)) in
-        meets_later j (suc k) t (suc (j + m + left j)) (meets_more (suc j) (suc k) t (suc (suc j + on.0 + left (suc j))) (suc (j + m + left j)) (omega (arith, e, fits)) rest))
+        meets_later bound y j (suc k) t (suc (j + m + left j)) (meets_more bound y (suc j) (suc k) t (suc (suc j + on.0 + left (suc j))) (suc (j + m + left j)) (omega (arith, e, fits)) rest))
         (λ q.
         let on = next k (step t) (b + bound) q.1 in
         let fits = on.2 in
         let more : suc k * bound ≡ bound + k * bound = omega arith in
         let rest = follows fuel (fuel * 2) (suc j) k (step t) on.0 on.1 (omega arith) (omega (arith, e, f, fits, more)) in
-        meets_first j k t (suc (j + m + left j)) (omega arith) (met_next t q.0) (meets_more (suc j) k (step t) (suc (suc j + on.0 + left (suc j))) (suc (j + m + left j) + bound) (omega (arith, e, fits)) rest))
+        meets_first bound y j k t (suc (j + m + left j)) (omega arith) (met_next t q.0) (meets_more bound y (suc j) k (step t) (suc (suc j + on.0 + left (suc j))) (suc (j + m + left j) + bound) (omega (arith, e, fits)) rest))
         z.2)
         r.0 where
           -- the next state is robust
-          next : (k : ℕ) (t : State) (b : ℕ) → Robust w bound price n k t b (step (y j)) → (c : ℕ) × Robust w bound price (fuel * 2) k t c (y (suc j)) × (c + left (suc j) ≤ b + left j)
+          next : (k : ℕ) (t : State) (b : ℕ) → Robust w bound price false n k t b (step (y j)) → (c : ℕ) × Robust w bound price false (fuel * 2) k t c (y (suc j)) × (c + left (suc j) ≤ b + left j)
           next k t b q =
               ⊎_elim
               (λ a.
               let less = left_less j a.1 in
-              (b, subst (Robust w bound price (fuel * 2) k t b) (sym a.0) (robust_less bound price n (fuel * 2) k t b (step (y j)) (omega (arith, h)) q), omega (arith, less)))
+              (b, subst (Robust w bound price false (fuel * 2) k t b) (sym a.0) (robust_less bound price n (fuel * 2) k t b (step (y j)) (omega (arith, h)) q), omega (arith, less)))
               (λ a.
               let fewer = left_paid j a.1 in
               let one = a.1 in
