@@ -30,6 +30,7 @@ pub mod Robust
 pub mod Trail
 pub mod SlipTrail
 pub mod EndsRight
+pub mod Silent
 pub mod OtherSlips
 pub mod DuplicateSlips
 pub mod RobustStart

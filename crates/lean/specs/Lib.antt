@@ -1,6 +1,7 @@
 pub mod Ticked
 pub mod Strayed
 pub mod Undisturbed
+pub mod Slips
 pub mod Woven
 pub mod Tests
 pub mod Leaves

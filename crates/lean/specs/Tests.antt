@@ -26,6 +26,7 @@ use Rattle.weave_core.specs.Leaving.{sweep_cost}
 use Rattle.qed_model.specs.Promise.Faults.{FaultsFound}
 use Rattle.lean.specs.Strayed.{Strayed, Displaced, Adrift, code_in, entry_in}
 use Rattle.lean.specs.Undisturbed.{Undisturbed, undisturbed_piece, undisturbed_ends}
+use Rattle.lean.specs.Slips.{NoSilentSlip}
 
 -- ---- the test
 -- the file is admitted, with sound options of the lean form, and these are its blocks
@@ -121,6 +122,14 @@ LeanTestsUndisturbed =
     → IsLeanTest f o every blocks words → (reached : ℕ → Bool) → AreReached f o reached
     → Undisturbed (loaded_file f) (loaded_file (file_read (lean_file f o every blocks words))) reached (base_of (image_of f)) (half_of o.half (image_of f)) (entry_in f o every blocks) blocks
     (undisturbed_piece o.land (length (data_ranges (image_of f))) o.round) (undisturbed_ends (data_ranges (image_of f)))
+
+-- no single wrong instruction ends silently wrong
+abbrev pub LeanTestsNoSilentSlip : Type 0
+LeanTestsNoSilentSlip =
+    (f : ElfFile) (o : Options) (every : ℕ) (blocks : List Block) (words : List ℕ)
+    → IsLeanTest f o every blocks words → (reached : ℕ → Bool) → AreReached f o reached
+    → NoSilentSlip (loaded_file f) (loaded_file (file_read (lean_file f o every blocks words))) reached (data_ranges (image_of f)) (base_of (image_of f)) (half_of o.half (image_of f))
+    (lean_bounds f o every) (undisturbed_piece o.land (length (data_ranges (image_of f))) o.round) (undisturbed_ends (data_ranges (image_of f)))
 
 -- with the sweep no change before it is silent at the end
 abbrev pub LeanTestsClean : Type 0

@@ -1,6 +1,6 @@
 //! What is promised of the lean form.
 ghost use Rattle.lean.specs.Tests.{LeanTestsHaveWords, LeanTestsWritable, LeanTestsKept, LeanTestsCaught, LeanTestsFaults};
-ghost use Rattle.lean.specs.Tests.{LeanTestsLanded, LeanTestsStrayed, LeanTestsDisplaced, LeanTestsAdrift, LeanTestsUndisturbed, LeanTestsClean};
+ghost use Rattle.lean.specs.Tests.{LeanTestsLanded, LeanTestsStrayed, LeanTestsDisplaced, LeanTestsAdrift, LeanTestsUndisturbed, LeanTestsNoSilentSlip, LeanTestsClean};
 ghost use Rattle.lean.specs.Woven.{LeanKept, LeanKeptInStep, LeanCaught, LeanLanded, LeanStrayed, LeanDisplaced, LeanAdrift, LeanUndisturbed, LeanClean};
 
 /// A plan of the form keeps the input's values, with a bound on the steps of the output for each step of the input, and
@@ -101,6 +101,11 @@ pub fn lean_tests_adrift()
 /// The duplicate half does not reach the original half.
 pub fn lean_tests_undisturbed()
     ensures { LeanTestsUndisturbed }
+{}
+
+/// No single wrong instruction ends silently wrong.
+pub fn lean_tests_no_silent_slip()
+    ensures { LeanTestsNoSilentSlip }
 {}
 
 /// With the sweep no change before it is silent at the end.

@@ -60,11 +60,11 @@ lean_output = loaded_file (file_read (lean_file loop options 1200 loop_blocks le
 abbrev pub new_code : List Ins
 new_code = placed false 0x13000 (lean_items loop options 1200 loop_blocks)
 
-stand : HasAt (fetched_at (memory_of lean_output.segments) lean_output.ranges) 0x13000 new_code
+pub stand : HasAt (fetched_at (memory_of lean_output.segments) lean_output.ranges) 0x13000 new_code
 stand = of.stand loop options sound loop_sound.loads cut.admitted loop_blocks cut.are false true (lean_items loop options 1200 loop_blocks) lean_words.0 (lean.are_items loop options 1200 loop_blocks cut lean_words.0 lean_words.1)
 
 -- a run from a state whose memory is that of the file
-runs : (n : ℕ) (s : State) → is_simple_run 0x13000 new_code n s ≡ true → s.memory ≡ memory_of lean_output.segments → s.ranges ≡ lean_output.ranges → run s n ≡ go 0x13000 new_code n s
+pub runs : (n : ℕ) (s : State) → is_simple_run 0x13000 new_code n s ≡ true → s.memory ≡ memory_of lean_output.segments → s.ranges ≡ lean_output.ranges → run s n ≡ go 0x13000 new_code n s
 runs n s simple memory ranges = run_is (memory_of lean_output.segments) lean_output.ranges 0x13000 new_code stand n s simple memory ranges
 
 -- ---- the promises
@@ -127,7 +127,7 @@ unfolding execute jumped computed_value value holds
 adrift_fires = ap (λ s. (run (with_distance 7 (placed_at 0x1314c s)) 11).outcome) at_entry ∙ ap (λ s. s.outcome) (runs 11 (state_of lean_output (set_reg DISTANCE 7 first_entry) 0x1314c Going) refl refl refl)
 
 -- ---- anything in the duplicate half
-undisturbed : Undisturbed loop_input lean_output none 0x10000 4096 (entry_in loop options 1200 loop_blocks) loop_blocks (undisturbed_piece true 0 1) (undisturbed_ends [])
+pub undisturbed : Undisturbed loop_input lean_output none 0x10000 4096 (entry_in loop options 1200 loop_blocks) loop_blocks (undisturbed_piece true 0 1) (undisturbed_ends [])
 undisturbed = lean.tests_undisturbed loop options 1200 loop_blocks lean_words.0 lean_words.1 none (λ e a h. absurd (false≢true h))
 
 -- at the entry of 0x10000 with a count of 2047, all pairs, x30 and x31 are 5
@@ -218,7 +218,7 @@ sized = (omega arith, (omega arith, (omega arith, (omega arith, tt))))
 low : Every (λ t. t.address + t.size ≤ 0x14000) lean_output.segments
 low = (omega arith, (omega arith, (omega (arith, table_size), (omega (arith, size), tt))))
 
-unmapped : (q : ℕ) → 0x14000 ≤ q → is_mapped lean_output q ≡ false
+pub unmapped : (q : ℕ) → 0x14000 ≤ q → is_mapped lean_output q ≡ false
 unmapped q l =
     ap is_some (get_among lean_output.segments q sized ∙ none_among lean_output.segments q (λ s m. let h = every_among (λ t. t.address + t.size ≤ 0x14000) s lean_output.segments low m in has_not s q (inr (omega (arith, h, l)))))
 
@@ -290,8 +290,12 @@ slips_fires = ap (λ s. (run (moved (set_reg 20 9 s.regs) (next_pc s) s) 29).out
 abbrev in_turn : List ℕ
 in_turn = 0 ∷ 0 ∷ 0 ∷ 0 ∷ 0 ∷ 1 ∷ 0 ∷ 0 ∷ 0 ∷ 0 ∷ 0 ∷ 0 ∷ 0 ∷ 0 ∷ 4096 ∷ 892 ∷ 0x10004 ∷ 0 ∷ 0 ∷ 0 ∷ 0 ∷ 1 ∷ 0 ∷ 0 ∷ 0 ∷ 0 ∷ 0 ∷ 0 ∷ 0 ∷ 0 ∷ 0x10004 ∷ 0x37c0000000000000 ∷ []
 
-with_loads : (n : ℕ) → is_loading_run lean_output.segments 0x13000 new_code n (start lean_output zeros) ≡ true → after_output lean_output zeros n ≡ go_loading lean_output.segments 0x13000 new_code n (start lean_output zeros)
-with_loads n simple = loading_run lean_output.segments sized lean_output.ranges 0x13000 new_code stand n (start lean_output zeros) simple refl refl
+-- a run with loads, from such a state
+pub runs_loading : (n : ℕ) (s : State) → is_loading_run lean_output.segments 0x13000 new_code n s ≡ true → s.memory ≡ memory_of lean_output.segments → s.ranges ≡ lean_output.ranges → run s n ≡ go_loading lean_output.segments 0x13000 new_code n s
+runs_loading n s simple memory ranges = loading_run lean_output.segments sized lean_output.ranges 0x13000 new_code stand n s simple memory ranges
+
+pub with_loads : (n : ℕ) → is_loading_run lean_output.segments 0x13000 new_code n (start lean_output zeros) ≡ true → after_output lean_output zeros n ≡ go_loading lean_output.segments 0x13000 new_code n (start lean_output zeros)
+with_loads n simple = runs_loading n (start lean_output zeros) simple refl refl
 
 before_branch : after_output lean_output zeros 91 ≡ state_of lean_output in_turn 0x131a8 Going
 unfolding execute jumped computed_value value holds loaded number_among gather number_bytes

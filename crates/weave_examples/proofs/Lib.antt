@@ -10,7 +10,8 @@ pub mod LoopKept
 mod LoopCaught
 mod LoopClean
 pub mod LeanBlocks
-mod LeanExample
+pub mod LeanExample
+mod LeanSlips
 pub mod StoreExample
 pub mod StoreKept
 pub mod StoreCaught

@@ -64,7 +64,7 @@ output_run n simple = run_is (memory_of loop_output.segments) loop_output.ranges
 
 -- ---- the runs
 -- the input ends with its sixth step at 0x1000c, with 0 in x5
-input_end : after_input loop_input 6 ≡ state_of loop_input zeros 0x1000c Ended
+pub input_end : after_input loop_input 6 ≡ state_of loop_input zeros 0x1000c Ended
 unfolding execute jumped computed_value value holds
 input_end = input_run 6 refl
 

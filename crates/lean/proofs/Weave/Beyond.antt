@@ -103,16 +103,18 @@ module _ (f g : Program) (w : World) (l : Lean) (blocks : List Block) (p : LeanP
       let falls = leave l.distance (before_end w.form) (fall_to leader) b.end (l.start_of b.end at) at in
       let next = behind_words w l leader blocks (at_cells f g w l blocks p) b (reads_cells f g w l blocks p) (begins blocks) m in
       let same : 0 + sum_of_sizes false (t ++ (pieces_of (worded w.form w.base w.entry l leader) b.body b.start ++ words)) ≡ sum_of_sizes false (t ++ (ps ++ falls)) =
-          no_room (sum_of_sizes false (t ++ (pieces_of (worded w.form w.base w.entry l leader) b.body b.start ++ words)))
-          ∙ ap (λ k. sum_of_sizes false (t ++ (k ++ words))) (pieces_same w l leader b.body b.start)
-          ∙ size_behind t (ps ++ words) (ps ++ falls) (size_behind ps words falls (leave_size leader l.distance (before_end w.form) b.end (l.start_of b.end at) at)) in
+      no_room (sum_of_sizes false (t ++ (pieces_of (worded w.form w.base w.entry l leader) b.body b.start ++ words)))
+      ∙ ap (λ k. sum_of_sizes false (t ++ (k ++ words))) (pieces_same w l leader b.body b.start)
+      ∙ size_behind t (ps ++ words) (ps ++ falls) (size_behind ps words falls (leave_size leader l.distance (before_end w.form) b.end (l.start_of b.end at) at)) in
       let behind : Reads false w.code w.entry (w.entry b.start + sum_of_sizes false (t ++ (ps ++ falls))) next.0 = subst (λ n. Reads false w.code w.entry (w.entry b.start + n) next.0) same next.2 in
       let whole = reads_join false w.code w.entry (w.entry b.start) (t ++ (ps ++ falls)) next.0 here.reads.1 behind in
       let shape : (t ++ (ps ++ falls)) ++ next.0 ≡ t ++ (ps ++ (falls ++ next.0)) = append_assoc t (ps ++ falls) next.0 ∙ ap (λ k. t ++ k) (append_assoc ps falls next.0) in
-      let flat : Reads false w.code w.entry (w.entry b.start) (t ++ (ps ++ (falls ++ next.0))) = subst (λ k. Reads false w.code w.entry (w.entry b.start) k) shape whole in
-      (next.0, next.1,
+      let flat : Reads false w.code w.entry (w.entry b.start) (t ++ (ps ++ (falls ++ next.0))) = subst (λ k. Reads false w.code w.entry (w.entry b.start) k) shape whole in (
+        next.0,
+        next.1,
         subst (λ d. Reads false w.code w.entry (w.entry b.start) (t ++ (ps ++ (leave d (before_end w.form) (fall_to leader) b.end b.start at ++ next.0)))) p.sound.apart
-        (subst (λ k. Reads false w.code w.entry (w.entry b.start) (t ++ (ps ++ (leave l.distance (before_end w.form) (fall_to leader) b.end k at ++ next.0)))) own flat))
+            (subst (λ k. Reads false w.code w.entry (w.entry b.start) (t ++ (ps ++ (leave l.distance (before_end w.form) (fall_to leader) b.end k at ++ next.0)))) own flat),
+      )
 
   -- behind the check stand the entries
   pub check_beyond : (xs : List Item) × Beyond leader xs × Reads false w.code w.entry l.check (check w.base w.distance l.every w.form.round w.form.spans ++ xs)

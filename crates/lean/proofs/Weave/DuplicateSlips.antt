@@ -12,6 +12,27 @@ use Rattle.lean.proofs.Weave.Carry.{flags-put, run-last, Standing, run-none, ste
 use Rattle.lean.proofs.Weave.Robust.{Disturbed}
 use Rattle.lean.proofs.Weave.Trail.{Played, put_cells, put_code}
 
+-- the step of such an instruction goes on, if it does not trap
+pub slip_goes : (g : Program) (base distance : ℕ) (i : Ins) (u v : State) → u.outcome ≡ Going → next u ≡ Known i → NotTrapped (step u) → SlipsDuplicate g base distance i u v → (step u).outcome ≡ Going
+slip_goes g base distance i u v going known calm (writes k d h) =
+    ⊎_elim
+    (λ c. ap (λ z. z.outcome) (step-compute u i going known c) ∙ going)
+    (λ c. ap (λ z. z.outcome) (step-load u i going known c (load_granted u i going known c calm)) ∙ going)
+    k
+slip_goes g base distance i u v going known calm (stores x a c here there e) = ap (λ z. z.outcome) (step-store u i going known c (store_granted u i going known c calm)) ∙ going
+slip_goes g base distance i u v going known calm (leaves c here e) = ap (λ z. z.outcome) (step-store u i going known c (store_granted u i going known c calm)) ∙ going
+
+-- a run with a slip up to it, and behind it
+module _ (g : Program) (regs : List ℕ) (n : ℕ) (v : State) where
+  pub slipped_before : (j : ℕ) → j ≤ n → slipped_run g regs n v j ≡ after_output g regs j
+  slipped_before j h = ap (λ b. cond b (after_output g regs j) (run v (j - (n + 1)))) (le-leb j n h)
+
+  pub slipped_behind : (j : ℕ) → n < j → slipped_run g regs n v j ≡ run v (j - (n + 1))
+  slipped_behind j h = by (nat_le j n) refl where
+    by : (b : Bool) → nat_le j n ≡ b → cond b (after_output g regs j) (run v (j - (n + 1))) ≡ run v (j - (n + 1))
+    by true e = absurd (let k = leb-true j n e in omega (arith, h, k))
+    by false e = refl
+
 module _ (g : Program) (w : World) (output : memory_of g.segments ≡ w.output) where
   -- ---- one slip
   module _ (i : Ins) (u : State) (st : Standing w.code w.output u) (going : u.outcome ≡ Going) where
@@ -79,16 +100,6 @@ module _ (g : Program) (w : World) (output : memory_of g.segments ≡ w.output) 
       cells = λ q l o. sym (put_cells g w output u.memory a n x q fa ha l o);
     }
 
-    -- its step goes on, if it does not trap
-    pub slip_goes : (v : State) → next u ≡ Known i → NotTrapped (step u) → SlipsDuplicate g w.base w.distance i u v → (step u).outcome ≡ Going
-    slip_goes v known calm (writes k d h) =
-        ⊎_elim
-        (λ c. ap (λ z. z.outcome) (step-compute u i going known c) ∙ going)
-        (λ c. ap (λ z. z.outcome) (step-load u i going known c (load_granted u i going known c calm)) ∙ going)
-        k
-    slip_goes v known calm (stores x a c here there e) = ap (λ z. z.outcome) (step-store u i going known c (store_granted u i going known c calm)) ∙ going
-    slip_goes v known calm (leaves c here e) = ap (λ z. z.outcome) (step-store u i going known c (store_granted u i going known c calm)) ∙ going
-
     module _ (known : next u ≡ Known i) (goes : (step u).outcome ≡ Going) where
       -- it does not trap
       calm : NotTrapped (step u)
@@ -118,15 +129,11 @@ module _ (g : Program) (w : World) (output : memory_of g.segments ≡ w.output) 
     abbrev y : ℕ → State
     y j = slipped_run g regs n v j
 
-    -- up to the slip, and behind it
-    pub before : (j : ℕ) → j ≤ n → y j ≡ after_output g regs j
-    before j h = ap (λ b. cond b (after_output g regs j) (run v (j - (n + 1)))) (le-leb j n h)
+    before : (j : ℕ) → j ≤ n → y j ≡ after_output g regs j
+    before j h = slipped_before g regs n v j h
 
-    pub behind : (j : ℕ) → n < j → y j ≡ run v (j - (n + 1))
-    behind j h = by (nat_le j n) refl where
-      by : (b : Bool) → nat_le j n ≡ b → cond b (after_output g regs j) (run v (j - (n + 1))) ≡ run v (j - (n + 1))
-      by true e = absurd (let k = leb-true j n e in omega (arith, h, k))
-      by false e = refl
+    behind : (j : ℕ) → n < j → y j ≡ run v (j - (n + 1))
+    behind j h = slipped_behind g regs n v j h
 
     -- by a change of the duplicate half
     module _ (d : Disturbed w (step (after_output g regs n)) v) where

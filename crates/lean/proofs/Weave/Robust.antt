@@ -848,13 +848,16 @@ module _ (w : World) (bound price : ℕ) where
         let i = ins Auipc r 0 0 (upper_part (distance_between u.pc v)) in
         let g = slip_gives w i u y (inl refl) (subst (λ z. Slip w z u y) (sym (same_word w u.pc i j d.0.1.0 known)) s) in
         let h = d.1 in
-        inr (inr (subst (Any r v rest R) (sym g.1.2) (record {
-          over = over_moved w.code u (set_reg r g.1.0 u.regs) (u.pc + 4) (over u d.0.0);
-          from = u.pc;
-          word = d.0.1.1;
-          reads = subst (λ q. Reads false w.code w.entry q rest) (eight u.pc) d.0.1.2;
-          goes = λ x p l. subst (λ k. R (moved k p u)) (sym (set_twice u.regs r g.1.0 x)) (first u x p d.0.0 l);
-        }), omega (arith, h, le1))))
+        inr (inr (
+          subst (Any r v rest R) (sym g.1.2) (record {
+            over = over_moved w.code u (set_reg r g.1.0 u.regs) (u.pc + 4) (over u d.0.0);
+            from = u.pc;
+            word = d.0.1.1;
+            reads = subst (λ q. Reads false w.code w.entry q rest) (eight u.pc) d.0.1.2;
+            goes = λ x p l. subst (λ k. R (moved k p u)) (sym (set_twice u.regs r g.1.0 x)) (first u x p d.0.0 l);
+          }),
+          omega (arith, h, le1),
+        )))
         (any_leads S t N K r v rest R less safe lasts on),
     mends w bound price S t N K (With w bound price (1 + few) (Begun w bound price r v rest Q)) (With w bound price less (Before_words w bound price R rest))
         (λ m u d j y known s c.

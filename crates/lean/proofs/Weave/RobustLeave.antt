@@ -530,17 +530,16 @@ module _ (w : World) (l : Lean) (leader : ℕ → Bool) (x : LeanIn w l leader) 
       (λ leads.
       let few : 1 + lost_steps + 2 ≤ slip_steps = omega arith in
       let plain = leads_word w bound price false (IsSteady w.reached s) (step s) N K (Into w p s (Go p ∷ rest)) (Entered w l leader x bound price slip s) most (1 + most) (omega arith) (into_lasts w bound price p s (Go p ∷ rest))
-          (λ u b. go_enters w l leader x bound price slip p s u rest here leads b)
-          (λ e. absurd (false≢true e))
-          (every_plain w bound price slip (IsSteady w.reached s) (step s) N K (With w bound price most (Entered w l leader x bound price slip s)) on) in
+      (λ u b. go_enters w l leader x bound price slip p s u rest here leads b)
+      (λ e. absurd (false≢true e))
+      (every_plain w bound price slip (IsSteady w.reached s) (step s) N K (With w bound price most (Entered w l leader x bound price slip s)) on) in
       leads_map w bound price slip N K s _ (With w bound price (cost (turn a p) + (1 + most)) (λ u. Into w a s (turn a p ++ (Go p ∷ rest)) u × F u))
       (λ m u d.
       let h = d.1 in
       let c = cost_append (turn a p) (Go p ∷ []) in
       (((d.0.0.0, subst (λ xs. Reads false w.code w.entry u.pc xs) (append_assoc (turn a p) (Go p ∷ []) rest) d.0.0.1), d.0.1), omega (arith, h, c)))
       (turn_leads F kept a p low (x.known p leads).low N K s s (Go p ∷ rest) (1 + most)
-      (inl (1 + lost_steps, few, λ y v lt ne b small. go_lost w l leader x loses p y s v rest leads lt ne b small))
-      (
+      (inl (1 + lost_steps, few, λ y v lt ne b small. go_lost w l leader x loses p y s v rest leads lt ne b small)) (
         fact_word w bound price slip (IsSteady w.reached s) (step s) N K (Into w p s (Go p ∷ rest)) F (Entered w l leader x bound price slip s) most (1 + most) (omega arith) (into_lasts w bound price p s (Go p ∷ rest))
             (λ u b f. go_enters w l leader x bound price slip p s u rest here leads b)
             (λ is n k m u n_le k_le st d i v known sl c.
@@ -636,25 +635,25 @@ module _ (w : World) (l : Lean) (leader : ℕ → Bool) (x : LeanIn w l leader) 
       (λ n u d. ((d.0.0, subst (λ k. Reads false w.code w.entry u.pc k) flat d.0.1), let h = d.1 in omega (arith, h, few, turns)))
       (links_lead i.rd (next_pc s) a t s N (suc K) words (cost (turn a t) + (24 + e)) m (omega arith) j.is j.sourced
       (by (leader t) t refl (omega arith) j.pc j.sourced to)))
-      where
-        by : (b : Bool) (t : ℕ) → leader t ≡ b → t < 2 ^ 64 → (step s).pc ≡ t → Sourced w (step s) → Goes w leader t → Onto w bound price slip N (suc K) s (cost (turn a t) + (24 + e)) (Into w a (step s) (turn a t ++ (Go t ∷ xs)))
-        by true t leads lt pc sourced to =
-            let size : 1 + lost_steps + 2 ≤ slip_steps = omega arith in
-            turn_on a t low (x.known t leads).low N (suc K) s (step s) (Go t ∷ xs) (24 + e)
-            (inl (1 + lost_steps, size, λ y v lt ne b small. go_lost w l leader x loses t y (step s) v xs leads lt ne b small))
-            (go_makes t s N K most (24 + e) xs beyond (omega arith) (omega (arith, le)) sourced pc leads on)
-        by false t none lt pc sourced to =
-            ⊎_elim
-            (λ leads. absurd (false≢true (sym none ∙ leads)))
-            (λ lacks.
-            let dead : (i : Ins) → w.source (step s).pc ≡ Known i → ⊥ = λ i k. lacks i (ap w.source (sym pc) ∙ k) in
-            turn_on a t low lt N (suc K) s (step s) (Go t ∷ xs) (24 + e)
-            (inr (go_ends false t s N K (24 + e) xs (Under w (step s)) (under_lasts w bound price (step s)) (λ u z. z) (omega arith) sourced dead (λ k. absurd (false≢true k))))
-            (go_ends slip t s N K (24 + e) xs (Half w t (step s)) (half_lasts w bound price t (step s)) (λ u h. (t, h)) (omega arith) sourced dead
-            (λ is n k m u n_le k_le st d i v known sl c.
-            let g = go_skips w u v t xs i d.0.1 known sl in
-            inl (subst (Stopped slip_steps) (sym g) (falls_off w l leader x loses t (step s) (moved u.regs (u.pc + 4) u) xs none (half_moved w t (step s) u (u.pc + 4) d.0.0) (c.small SIGNATURE) (c.small CURSOR) d.0.1.1 beyond)))))
-            to
+    where
+      by : (b : Bool) (t : ℕ) → leader t ≡ b → t < 2 ^ 64 → (step s).pc ≡ t → Sourced w (step s) → Goes w leader t → Onto w bound price slip N (suc K) s (cost (turn a t) + (24 + e)) (Into w a (step s) (turn a t ++ (Go t ∷ xs)))
+      by true t leads lt pc sourced to =
+          let size : 1 + lost_steps + 2 ≤ slip_steps = omega arith in
+          turn_on a t low (x.known t leads).low N (suc K) s (step s) (Go t ∷ xs) (24 + e)
+          (inl (1 + lost_steps, size, λ y v lt ne b small. go_lost w l leader x loses t y (step s) v xs leads lt ne b small))
+          (go_makes t s N K most (24 + e) xs beyond (omega arith) (omega (arith, le)) sourced pc leads on)
+      by false t none lt pc sourced to =
+          ⊎_elim
+          (λ leads. absurd (false≢true (sym none ∙ leads)))
+          (λ lacks.
+          let dead : (i : Ins) → w.source (step s).pc ≡ Known i → ⊥ = λ i k. lacks i (ap w.source (sym pc) ∙ k) in
+          turn_on a t low lt N (suc K) s (step s) (Go t ∷ xs) (24 + e)
+          (inr (go_ends false t s N K (24 + e) xs (Under w (step s)) (under_lasts w bound price (step s)) (λ u z. z) (omega arith) sourced dead (λ k. absurd (false≢true k))))
+          (go_ends slip t s N K (24 + e) xs (Half w t (step s)) (half_lasts w bound price t (step s)) (λ u h. (t, h)) (omega arith) sourced dead
+          (λ is n k m u n_le k_le st d i v known sl c.
+          let g = go_skips w u v t xs i d.0.1 known sl in
+          inl (subst (Stopped slip_steps) (sym g) (falls_off w l leader x loses t (step s) (moved u.regs (u.pc + 4) u) xs none (half_moved w t (step s) u (u.pc + 4) d.0.0) (c.small SIGNATURE) (c.small CURSOR) d.0.1.1 beyond)))))
+          to
 
   -- ---- a branch
   module _ (a : ℕ) (s : State) (i : Ins) (N K most e : ℕ) (low : a < 2 ^ 64) (c : class_of i.kind ≡ class.Branch)
@@ -783,9 +782,9 @@ module _ (w : World) (l : Lean) (leader : ℕ → Bool) (x : LeanIn w l leader) 
         (λ u b f. stopped_more 2 slip_steps (moved u.regs (u.pc + 4) u) (omega arith)
         (way_stops w (opposite i.kind) i (moved u.regs (u.pc + 4) u) behind opp (half_over w t (step s) (moved u.regs (u.pc + 4) u) b.0) b.1 (turned_over u true f)))
         (on st)))
-        where
-          passed : (u : State) → Branches w s i true → Into w a s words u → step u ≡ moved u.regs (u.pc + 4) u
-          passed u br d = walked w u (moved u.regs (u.pc + 4) u) (branch_passed w u own (half_over w a s u d.0) d.1.0 (opposite_is i.kind c).0 (tests true u br d.0))
+      where
+        passed : (u : State) → Branches w s i true → Into w a s words u → step u ≡ moved u.regs (u.pc + 4) u
+        passed u br d = walked w u (moved u.regs (u.pc + 4) u) (branch_passed w u own (half_over w a s u d.0) d.1.0 (opposite_is i.kind c).0 (tests true u br d.0))
 
     -- the other way round
     passes : Branches w s i false → Goes w leader after → Next w l leader x bound price slip N K s most → Onto w bound price slip N (suc K) s (31 + e) (Into w a s words)
@@ -808,12 +807,12 @@ module _ (w : World) (l : Lean) (leader : ℕ → Bool) (x : LeanIn w l leader) 
         (λ st.
         half_leads w bound price slip way (keep_way is_spare false (opposite i.kind) i opp) N K a (step s) (step s) behind (cost behind + most)
         (falls_lead a after (step s) N K most low br.sourced br.pc to (on st)))
-        where
-          jumps : (u : State) → Branches w s i false → Into w a s words u → step u ≡ moved u.regs (u.pc + 4 + size) u
-          jumps u br d =
-              let f = far_to u d in
-              let p = u.pc + 4 + size in
-              walked w u (moved u.regs p u) (branch_taken w u own p (half_over w a s u d.0) d.1.0 (opposite_is i.kind c).0 (tests false u br d.0) f.1 f.2)
+      where
+        jumps : (u : State) → Branches w s i false → Into w a s words u → step u ≡ moved u.regs (u.pc + 4 + size) u
+        jumps u br d =
+            let f = far_to u d in
+            let p = u.pc + 4 + size in
+            walked w u (moved u.regs p u) (branch_taken w u own p (half_over w a s u d.0) d.1.0 (opposite_is i.kind c).0 (tests false u br d.0) f.1 f.2)
 
   -- a branch: the first word makes the input's next state
   pub branch_leads :

@@ -287,8 +287,7 @@ module _ (w : World) (near : w.form.far ≡ false) where
             → ((u : State) (p : ℕ) → P u → Q (moved (set_reg i.rd (result i.kind i u) u.regs) p u)) → Goes i P Q rest
         computing i P Q rest c ne15 ne30 over goes u b =
             let e = computes w i u (over u b.0) b.1.0 c in
-            let v = result i.kind i u in
-            (
+            let v = result i.kind i u in (
               subst (Before Q rest) (sym e) (goes u (u.pc + 4) b.0, b.1.1),
               (ap (λ y. reg y 15) e ∙ slice_index-set_reg_other u.regs i.rd v 15 ne15, ap (λ y. reg y 30) e ∙ slice_index-set_reg_other u.regs i.rd v 30 ne30),
             )

@@ -1,5 +1,5 @@
 -- The lean form of an admitted test: within a JAL's reach all of it has words; it is a plan that keeps the promises.
-use Rattle.std.proofs.Common.{◌≡◌, ℕ, ◌+◌, ◌*◌, ◌%◌, ◌^◌, ◌<◌, ◌≤◌, Bool, true, false, List, [], ◌∷◌, ◌++◌, length, Some, refl, sym, ap, ◌∙◌, subst, arith, append_assoc, length-append, ◌-◌, inl, inr}
+use Rattle.std.proofs.Common.{◌≡◌, ℕ, zero, suc, ◌+◌, ◌*◌, ◌%◌, ◌^◌, ◌<◌, ◌≤◌, Bool, true, false, List, [], ◌∷◌, ◌++◌, length, Some, refl, sym, ap, ◌∙◌, subst, arith, append_assoc, length-append, ◌-◌, inl, inr}
 use Rattle.std.specs.Prelude.{map, All, pos, unwrap_or}
 use Rattle.std.proofs.lemmas.Bool.{and_from, eq-eqb, false≢true}
 use Rattle.std.proofs.Math.Nat.{min-le_left}
@@ -19,7 +19,7 @@ use Rattle.qed_model.specs.Weave.Sequences.{Form, End, Falls, Stops, Reads, Bloc
 use Rattle.qed_model.specs.Weave.Forms.{form_of, mirror_of}
 use Rattle.qed_model.specs.Weave.Lean.{call_at, check, begin, leave}
 use Rattle.qed_model.specs.Weave.LeanCode.{lean_of, lean_items, items_with, start_at, Lean, is_store, store_part, both_parts, parts_with, worded, fall_words, Counting, counting_of}
-use Rattle.qed_model.specs.Weave.LeanBounds.{cost_of, entry_steps, lean_bounds}
+use Rattle.qed_model.specs.Weave.LeanBounds.{cost_of, entry_steps, lean_bounds, word_bound}
 use Rattle.qed_model.proofs.Lemmas.{sound_most, size-append, IsInside, mark_inside, grain_of_sizes, is_near, IsNearCode, near_jump, near_words, has_word}
 use Rattle.tests.proofs.Lemmas.{known_instruction}
 use Rattle.weave_core.specs.World.{World, Item, Program, Known, class_of, Go}
@@ -27,7 +27,7 @@ use Rattle.weave_core.specs.Blocks.{IsEntryOf, TableAt}
 use Rattle.weave_core.specs.WeavePromise.{AllBlocksOf, OnlyCode}
 use Rattle.weave_core.proofs.Lemmas.{marked, rows_inputs, reads_front, place_low, AreItems, loaded_ranges, Ascend, code_distinct, rows_are, entry_or_stub, length-instructions, mark_behind, rows_behind, down, up, both_all, if_all, AllPieces, IsKnownBlock, InImage, admitted_image, test_writable}
 use Rattle.lockstep.proofs.Lemmas.{only_inside}
-use Rattle.lean.specs.Tests.{IsLeanTest, LeanTestsKept, LeanTestsCaught, LeanTestsFaults, LeanTestsLanded, LeanTestsStrayed, LeanTestsDisplaced, LeanTestsAdrift, LeanTestsUndisturbed, LeanTestsClean, AreLeanBlocks, LeanTestsHaveWords, LeanTestsWritable}
+use Rattle.lean.specs.Tests.{IsLeanTest, LeanTestsKept, LeanTestsCaught, LeanTestsFaults, LeanTestsLanded, LeanTestsStrayed, LeanTestsDisplaced, LeanTestsAdrift, LeanTestsUndisturbed, LeanTestsNoSilentSlip, LeanTestsClean, AreLeanBlocks, LeanTestsHaveWords, LeanTestsWritable}
 use Rattle.lean.specs.Woven.{LeanIn, LeanPlan, lean_weave_of}
 use Rattle.lean.proofs.Weave.Costs.{call_fits}
 use Rattle.lean.proofs.Weave.Ways.{reads_behind}
@@ -38,6 +38,9 @@ use Rattle.lean.proofs.Weave.Landed.{lean_landed}
 use Rattle.lean.proofs.Weave.Piece.{store_class}
 use Rattle.lean.proofs.Weave.Plan.{entry_grain}
 use Rattle.lean.proofs.Weave.Off.{lean_displaced, lean_adrift}
+use Rattle.lean.specs.Strayed.{entry_in}
+use Rattle.lean.specs.Undisturbed.{undisturbed_piece, undisturbed_ends}
+use Rattle.lean.proofs.Weave.Silent.{silent}
 use Rattle.lean.proofs.Weave.Undisturbed.{lean_undisturbed}
 use Rattle.lean.proofs.Weave.Strays.{lean_strayed}
 use Rattle.lean.proofs.Weave.Promise.{lean_in_step, lean_caught, lean_faults, lean_clean}
@@ -45,7 +48,7 @@ use Rattle.lean.proofs.Weave.Unmarked.{unmarked_worded, entry_same, same_code, c
 use Rattle.std.specs.List.{list_all}
 use Rattle.std.proofs.lemmas.List.{append_assoc}
 use Rattle.std.proofs.lemmas.List.Elements.{All-head, All-tail}
-use Rattle.tests.specs.Admission.DataRanges.{data_ranges}
+use Rattle.tests.specs.Admission.DataRanges.{data_ranges, word_count}
 use Rattle.machine.specs.Table.{ins, Illegal, Jal}
 use Rattle.qed_model.specs.Promise.Landed.{IsEntry}
 use Rattle.lean.proofs.Weave.Near.{check_near, begin_near, enter_near, store_near, leave_near, before_near}
@@ -425,6 +428,20 @@ tests_adrift f o every blocks words t =
 pub tests_undisturbed : LeanTestsUndisturbed
 tests_undisturbed f o every blocks words t reached aims =
     lean_undisturbed (input f o every blocks t.cut words t) (output f o every blocks t.cut words t) (w f o every blocks t.cut words t reached aims) (lean_of f o every blocks) blocks (plan f o every blocks t.cut words t reached aims)
+
+pub tests_silent : LeanTestsNoSilentSlip
+tests_silent f o every blocks words t reached aims =
+    let spans = data_ranges (image_of f) in
+    let bounds = lean_bounds f o every in
+    silent (input f o every blocks t.cut words t) (output f o every blocks t.cut words t) reached spans (base_of (image_of f)) (half_of o.half (image_of f)) (entry_in f o every blocks) blocks bounds
+    (undisturbed_piece o.land (length spans) o.round) (undisturbed_ends spans)
+    (tests_kept f o every blocks words t reached aims) (tests_faults f o every blocks words t reached aims) (tests_undisturbed f o every blocks words t reached aims) (omega arith) (λ c h. least o.land (word_count spans) o.round _ _ c h) where
+      some_same : (x y : ℕ) → Some x ≡ Some y → x ≡ y
+      some_same x y e = cc
+
+      least : (land : Bool) (n round ends period c : ℕ) → word_bound land n round ends period ≡ Some c → 8 ≤ c
+      least land zero round ends period c h = absurd (cc)
+      least land (suc n) round ends period c h = subst (λ z. 8 ≤ z) (some_same _ c h) (omega arith)
 
 pub tests_clean : LeanTestsClean
 tests_clean f o every blocks words t swept reached aims =

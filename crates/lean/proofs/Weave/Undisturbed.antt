@@ -38,7 +38,7 @@ use Rattle.lean.proofs.Weave.Trail.{Played, robust_more, robust_disturbed, follo
 use Rattle.lean.proofs.Weave.OtherSlips.{slip_of}
 use Rattle.lean.proofs.Weave.EndsRight.{ends_not_over, ends_right}
 use Rattle.lean.proofs.Weave.SlipTrail.{runs_on, slip_follows, went_on}
-use Rattle.lean.proofs.Weave.DuplicateSlips.{before, behind, slip_goes, slip_disturbs, slip_plays, slip_begins}
+use Rattle.lean.proofs.Weave.DuplicateSlips.{slipped_before, slipped_behind, slip_goes, slip_disturbs, slip_plays, slip_begins}
 
 -- ---- steps
 wraps_cost : (spans : List (ℕ × ℕ)) (first : ℕ) → cost (wraps spans first) ≤ 5 * length spans
@@ -368,10 +368,10 @@ module _ (f g : Program) (w : World) (l : Lean) (blocks : List Block) (p : LeanP
           within = λ k h. let a = r.within k (omega (arith, h)) in omega (arith, a, last);
           values = λ k h. ⊎_elim (λ o. inl o) (λ z. inr (halves_of (run s0 k) (y (r.at k)) z, z.ends)) (r.values k (omega (arith, h)));
         }))
-        (slip_follows w bound dear (omega arith) u0 v y m (λ j h. before g w p.world.output regs m v j h) later i word (slip_of w i u v word calm s) calm (λ j h. went_on u0 m j h going) m 0 (omega arith) fuel (suc n) s0 m0
+        (slip_follows w bound dear (omega arith) u0 v y m (λ j h. slipped_before g regs m v j h) later i word (slip_of w i u v word calm s) calm (λ j h. went_on u0 m j h going) m 0 (omega arith) fuel (suc n) s0 m0
         (subst (Robust w bound dear true fuel (suc n) s0 m0) (sym (run-none u0)) (starts true fuel (suc n) regs are first)) (omega arith)) where
           later : (j : ℕ) → slipped_run g regs m v (suc m + j) ≡ run v j
-          later j = behind g w p.world.output regs m v (suc m + j) (omega arith) ∙ (let e : suc m + j - (m + 1) ≡ j = omega arith in ap (run v) e)
+          later j = slipped_behind g regs m v (suc m + j) (omega arith) ∙ (let e : suc m + j - (m + 1) ≡ j = omega arith in ap (run v) e)
 
     -- a run with a slip that ends
     ended_as :
@@ -379,7 +379,7 @@ module _ (f g : Program) (w : World) (l : Lean) (blocks : List Block) (p : LeanP
         → SlipsDuplicate g w.base w.distance i (after_output g regs m) v ⊎ SlipsOther i (after_output g regs m) v → GoesOn g regs m → ((k : ℕ) → Steady f w.reached k) → (run v j).outcome ≡ Ended → EndsRight f (run v j)
     ended_as regs m j i v are going known s on st e =
         let first = 31 + bound + ends + dear in
-        let right : FollowsTo f (suc m + j) first bound (slipped_run g regs m v) → EndsRight f (run v j) = λ r. ends_right f g w p.world.output regs m j v first bound r e in
+        let right : FollowsTo f (suc m + j) first bound (slipped_run g regs m v) → EndsRight f (run v j) = λ r. ends_right f g regs m j v first bound r e in
         ⊎_elim
         (λ d. right (slips_to regs m (suc m + j) i v are going known (goes d) d (st (suc m + j))))
         (λ o. ⊎_elim (λ x. absurd (ends_not_over v j slip_steps e x)) right (others_to regs m (suc m + j) i v are going known o on (st (suc m + j))))
@@ -396,8 +396,7 @@ module _ (f g : Program) (w : World) (l : Lean) (blocks : List Block) (p : LeanP
 
           goes : SlipsDuplicate g w.base w.distance i u v → (after_output g regs (m + 1)).outcome ≡ Going
           goes d =
-              let su : Standing w.code w.output u = standing_run w.code w.output w.output_fixed m (start g regs) (first_stands regs are) in
-              ap (λ z. z.outcome) (sym next_is) ∙ slip_goes g w p.world.output i u su going v known (ap (λ z. is_trapped z.outcome) next_is ∙ calm (is_trapped (after_output g regs (m + 1)).outcome) refl) d
+              ap (λ z. z.outcome) (sym next_is) ∙ slip_goes g w.base w.distance i u v going known (ap (λ z. is_trapped z.outcome) next_is ∙ calm (is_trapped (after_output g regs (m + 1)).outcome) refl) d
 
   undisturbed : Undisturbed f g w.reached w.base w.distance w.entry blocks bound ends
   undisturbed = record {
