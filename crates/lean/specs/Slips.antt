@@ -31,8 +31,8 @@ abbrev pub bound_as : Class → Bounds → Option ℕ
 bound_as class.Store bounds = bounds.word
 bound_as _ bounds = Some bounds.register
 
--- what becomes of a run with a slip behind step m: it fires or traps soon; or it settles within b steps, as changes do, with
--- nothing wrong in the duplicate half; or it comes to the input's states after 0 to n steps
+-- what becomes of a run with a slip behind step m. It fires or traps soon. Or it settles within b steps as changes do, so
+-- the duplicate half is right. Or it comes to the input's states after 0 to n steps
 pub data Settles (f g : Program) (spans : List (ℕ × ℕ)) (regs : List ℕ) (m n b first bound : ℕ) (v : State) : Type 0 where
   stops : Stopped slip_steps v → Settles f g spans regs m n b first bound v
   settles : SettlesWithin spans 0 b (run v) (λ k. after_output g regs (m + 1 + k)) → Settles f g spans regs m n b first bound v

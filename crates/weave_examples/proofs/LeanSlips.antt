@@ -9,7 +9,6 @@ use Rattle.machine.specs.Numbers.{number_bytes}
 use Rattle.machine.specs.Table.{Add, Bge, Ecall, Illegal, Jal, Lui}
 use Rattle.machine.specs.declared.outcome.Cause.TheVariants as cause
 use Rattle.machine.specs.declared.outcome.Outcome.TheVariants.{Trapped}
-use Rattle.machine.proofs.Lemmas.{step-known}
 use Rattle.qed_model.specs.Promise.Kept.{Steady, after_input, after_output, is_trapped}
 use Rattle.weave_core.specs.World.{memory_of, start, zeros, Going, Ended, Fired, Ins, ins, Addi, Known, State, fetched_at, next, run, execute, jumped, computed_value, value, holds, loaded}
 use Rattle.lean.specs.Strayed.{Stopped}
@@ -17,7 +16,7 @@ use Rattle.lean.specs.Undisturbed.{EndsRight, FollowsTo, GoesOn, SlipsOther, cha
 use Rattle.lean.proofs.Weave.EndsRight.{ends_not_over}
 use Rattle.weave_examples.proofs.LeanExample.{lean_output, new_code, stand, runs, runs_loading, undisturbed, unmapped, with_loads}
 use Rattle.weave_examples.proofs.LoopKept.{input_end, loop_input, none, steady_none}
-use Rattle.weave_examples.proofs.ListedRuns.{found, instruction_at, state_of, zeros_start}
+use Rattle.weave_examples.proofs.ListedRuns.{step-known, found, instruction_at, state_of, zeros_start}
 
 -- ---- the premises
 -- the run without a slip ends with step 127, so it is never over

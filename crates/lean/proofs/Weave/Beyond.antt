@@ -11,17 +11,16 @@ use Rattle.qed_model.specs.Weave.Lean.{begin, check, turn, opposite, check_way, 
 use Rattle.qed_model.specs.Weave.LeanCode.{Lean, worded, fall_to, fall_words}
 use Rattle.qed_model.specs.Weave.Placed.{sum_of_sizes}
 use Rattle.qed_model.specs.Weave.Sequences.{Reads, End, Falls, Stops, Block, body_length, before_end, stub}
-use Rattle.qed_model.proofs.Lemmas.{size-append}
 use Rattle.weave_core.specs.Weave.{Weave}
-use Rattle.weave_core.proofs.Lemmas.{reads_front}
 use Rattle.weave_core.specs.World.{World, Item, Mark, Plain, Go, Program, target, Class, class_of}
 use Rattle.lean.specs.Woven.{LeanPlan, lean_weave_of}
 use Rattle.lean.proofs.Weave.Blocks.{begins}
+use Rattle.lean.proofs.Weave.Carry.{size-append, reads_front}
 use Rattle.lean.proofs.Weave.Plan.{BlockAt, pieces_same}
 use Rattle.lean.proofs.Weave.Promise.{begins as starts, at_cells, at_check, check_is, reads_check, reads_cells, block_at}
 use Rattle.lean.proofs.Weave.Ways.{reads_behind, reads_join}
 
--- the entry of a block, or a word that is no instruction
+-- the entry of a block, or a word that traps
 abbrev pub Beyond : (ℕ → Bool) → List Item → Type 0
 Beyond leader xs = ((c : ℕ) × (leader c ≡ true) × (xs ≡ Mark c ∷ [])) ⊎ ((i : Ins) × (class_of i.kind ≡ class.Illegal) × (xs ≡ Plain i ∷ []))
 

@@ -163,9 +163,8 @@ module _ (w : World) (near : w.form.far ≡ false) where
 
 -- ---- slips
 module _ (w : World) where
-  -- v is the state behind an instruction i of u that goes wrong once. Of the test's own instructions only the branches count: i
-  -- gives x14 to x31 any number, goes on or jumps if it is a branch, stores anything in the duplicate half, or is a jump or the
-  -- end and is skipped
+  -- v is the state behind an instruction i of u that goes wrong once. It gives x14 to x31 any number, or stores anything in the
+  -- duplicate half. A branch goes on or jumps; a jump or the end is skipped
   pub data Slip (i : Ins) (u v : State) : Type 0 where
     gives : (x : ℕ) → (class_of i.kind ≡ class.Compute) ⊎ (class_of i.kind ≡ class.Load) → 14 ≤ i.rd → x < 2 ^ 64 → v ≡ moved (set_reg i.rd x u.regs) (u.pc + 4) u → Slip i u v
     passes : class_of i.kind ≡ class.Branch → v ≡ moved u.regs (u.pc + 4) u → Slip i u v

@@ -90,7 +90,7 @@ abbrev last : Ins
 last = ins Bne 0 CURSOR TEMPORARY (neg_ℤ (pos 32))
 
 module _ (w : World) (bound price : ℕ) (slip : Bool) where
-  -- a step, the slips of which lead to the same property
+  -- a step whose slips lead to the same property
   on_step :
       (N K : ℕ) (s : State) (D E : ℕ → State → Type 0) → LastsWith w bound price D → Steps w bound price D E → (slip ≡ true → Slides w bound price D E) → Leads w bound price slip N K s E
       → Leads w bound price slip (suc N) K s D

@@ -274,7 +274,7 @@ module _ (w : World) (l : Lean) (leader : ℕ → Bool) (x : LeanIn w l leader) 
       (λ e. stopped_step lost_steps v (subst (Stopped lost_steps) (sym e) (entry_lost p y (gone w v p) t v leads small ne b.0 (gone_to w v p rest b.1 (x.known p leads).entry_low) cursor)))
       (go_step w v p rest (half_over w y t v b.0) b.1)
 
-  -- behind a block, under a signature that is no leader's
+  -- behind a block, under a signature that belongs to no leader
   falls_off :
       (a : ℕ) (t u : State) (xs : List Item) → leader a ≡ false → Half w a t u → reg u SIGNATURE < 2 ^ 64 → reg u CURSOR < 2 ^ 64 → Reads false w.code w.entry u.pc xs → Beyond leader xs → Stopped slip_steps u
   falls_off a t u xs none h small low r b =

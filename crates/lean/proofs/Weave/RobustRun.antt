@@ -14,12 +14,11 @@ use Rattle.weave_core.specs.Blocks.{EndStands, Leaves, Full}
 use Rattle.weave_core.specs.Rows.{Sourced}
 use Rattle.weave_core.specs.Weave.{Weave}
 use Rattle.weave_core.specs.WeaveLaws.{PiecesAt}
-use Rattle.weave_core.proofs.Lemmas.{reads_front}
 use Rattle.weave_core.specs.World.{World, Item, Mark, Program, Known, State, step, run, get, Class, class_of}
 use Rattle.lean.specs.Woven.{LeanPlan, lean_weave_of}
 use Rattle.lean.proofs.Weave.Beyond.{Beyond, beyond, check_beyond, away}
 use Rattle.lean.proofs.Weave.Blocks.{begun, begins}
-use Rattle.lean.proofs.Weave.Carry.{known_at, run-more, run-none, one_run, not_trapped_le, source_run, step-illegal}
+use Rattle.lean.proofs.Weave.Carry.{reads_front, known_at, run-more, run-none, one_run, not_trapped_le, source_run, step-illegal}
 use Rattle.lean.proofs.Weave.Chain.{cost_append}
 use Rattle.lean.proofs.Weave.Half.{Half, Into}
 use Rattle.lean.proofs.Weave.Lost.{lost}

@@ -212,7 +212,7 @@ module _ (w : World) (s : State) (a : ℕ) where
         (λ u p b. subst (λ n. Awaits ws (moved (set_reg i.rd n u.regs) p u)) (sym (value u b.zero_reg)) (awaits_set i.rd v p ws u b))
         (λ is. mend) rest
 
-    -- a register of the test's own, of which no slips are asked, or one that changes reach
+    -- one of the test's own registers, or one that changes reach
     abbrev IsFree : ℕ → Type 0
     IsFree r = (r ≤ LAST_ORIGINAL) ⊎ IsDuplicateReg r
 

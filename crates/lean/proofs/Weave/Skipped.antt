@@ -13,7 +13,7 @@ use Rattle.lean.proofs.Weave.Robust.{stopped_more, stopped_now}
 
 -- the most steps of a run at an entry with another signature, or another distance in x14
 abbrev pub lost_steps : ℕ
-lost_steps = 3 * 2047 + 13
+lost_steps = 3 * 2047 + 40
 
 -- such a run is over
 abbrev pub Loses : World → (ℕ → Bool) → Type 0
