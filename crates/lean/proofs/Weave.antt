@@ -7,6 +7,7 @@ pub mod Turn
 pub mod Ways
 pub mod Leave
 pub mod Leap
+pub mod SweepWords
 pub mod End
 pub mod Piece
 pub mod Held
@@ -28,9 +29,11 @@ pub mod Carry
 pub mod Half
 pub mod Robust
 pub mod Trail
+pub mod Idle
 pub mod SlipTrail
 pub mod EndsRight
 pub mod Silent
+pub mod NoWrongEnd
 pub mod OtherSlips
 pub mod DuplicateSlips
 pub mod RobustStart

@@ -2,26 +2,25 @@
 use Rattle.std.specs.Prelude.{◌≡◌, ◌⊎◌, ℕ, ◌+◌, ◌^◌, ◌≤◌, Bool, false, List, Option, Some}
 use Rattle.rv_isa.specs.declared.class.Class.{Class}
 use Rattle.rv_isa.specs.declared.class.Class.TheVariants as class
-use Rattle.machine.specs.declared.outcome.Outcome.TheVariants.{Going}
+use Rattle.machine.specs.declared.outcome.Outcome.TheVariants.{Going, Ended}
 use Rattle.machine.specs.Program.{Program, AreStartRegs}
 use Rattle.machine.specs.Step.{State, Ins, Known, class_of, next, next_pc, moved, run}
 use Rattle.qed_model.specs.declared.bounds.Bounds.{Bounds}
-use Rattle.qed_model.specs.Promise.Faults.{WritesOriginal, StoresOriginal, GivesAny, StoresAny}
 use Rattle.qed_model.specs.Promise.InStep.{SettlesWithin}
 use Rattle.qed_model.specs.Promise.Kept.{after_output, is_mapped, Steady}
 use Rattle.qed_model.specs.Promise.OwnSteps.{Covers}
+use Rattle.lockstep.specs.WrongOnce.{WrongOnce}
 use Rattle.lean.specs.Strayed.{Stopped}
-use Rattle.lean.specs.Undisturbed.{SlipsDuplicate, SlipsOther, slip_steps, slipped_run, FollowsTo, change_price}
+use Rattle.lean.specs.Undisturbed.{SlipsDuplicate, SlipsOther, slip_steps, slipped_run, FollowsTo, EndsRight, change_price}
 
 -- its result, if it has one, goes to x0
 abbrev pub WritesNothing : Ins → Type 0
 WritesNothing i = (class_of i.kind ≡ class.Fence) ⊎ (((class_of i.kind ≡ class.Compute) ⊎ (class_of i.kind ≡ class.Load)) × (i.rd ≡ 0))
 
--- v is the state behind the instruction i of u if it goes wrong once. It gives x1 to x13 any number, or stores any number in data
--- words of the original half; it writes into the duplicate half; it is another one of the output; or it is skipped
+-- v is the state behind the instruction i of u if it goes wrong once, by what it writes: the original half, the duplicate half,
+-- what else the output has, or nothing
 pub data Slips (g : Program) (spans : List (ℕ × ℕ)) (base distance : ℕ) (i : Ins) (u v : State) : Type 0 where
-  results : WritesOriginal i → GivesAny i u v → Slips g spans base distance i u v
-  originals : StoresOriginal spans i u → StoresAny i u v → Slips g spans base distance i u v
+  own : WrongOnce spans i u v → Slips g spans base distance i u v
   duplicates : SlipsDuplicate g base distance i u v → Slips g spans base distance i u v
   others : SlipsOther i u v → Slips g spans base distance i u v
   idles : WritesNothing i → v ≡ moved u.regs (next_pc u) u → Slips g spans base distance i u v
@@ -45,3 +44,10 @@ pub record NoSilentSlip (f g : Program) (reached : ℕ → Bool) (spans : List (
       → Slips g spans base distance i (after_output g regs m) v → bound_as (class_of i.kind) bounds ≡ Some b → Covers f g reached bounds.start bounds.piece regs (m + 1 + b)
       → ((q : ℕ) → top ≤ q → is_mapped g q ≡ false) → top + 8 ≤ 2 ^ 64 → Steady f reached n
       → Settles f g spans regs m n b (31 + bound + ends + change_price bound ends top) bound v
+
+-- with the sweep, if the input is steady for ever, a run with a slip that ends has its values, wherever the slip is
+pub record NoWrongEnd (f g : Program) (reached : ℕ → Bool) (spans : List (ℕ × ℕ)) (base distance : ℕ) : Type 0 where
+  pub right :
+      (regs : List ℕ) (m j top : ℕ) (i : Ins) (v : State) → AreStartRegs regs → (after_output g regs m).outcome ≡ Going → next (after_output g regs m) ≡ Known i
+      → Slips g spans base distance i (after_output g regs m) v → ((q : ℕ) → top ≤ q → is_mapped g q ≡ false) → top + 8 ≤ 2 ^ 64
+      → ((k : ℕ) → Steady f reached k) → (run v j).outcome ≡ Ended → EndsRight f (run v j)

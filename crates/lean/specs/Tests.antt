@@ -26,7 +26,8 @@ use Rattle.weave_core.specs.Leaving.{sweep_cost}
 use Rattle.qed_model.specs.Promise.Faults.{FaultsFound}
 use Rattle.lean.specs.Strayed.{Strayed, Displaced, Adrift, code_in, entry_in}
 use Rattle.lean.specs.Undisturbed.{Undisturbed, undisturbed_piece, undisturbed_ends}
-use Rattle.lean.specs.Slips.{NoSilentSlip}
+use Rattle.lockstep.specs.WrongOnce.{PlacesFound, FaultsClean}
+use Rattle.lean.specs.Slips.{NoSilentSlip, NoWrongEnd}
 
 -- ---- the test
 -- the file is admitted, with sound options of the lean form, and these are its blocks
@@ -130,6 +131,29 @@ LeanTestsNoSilentSlip =
     → IsLeanTest f o every blocks words → (reached : ℕ → Bool) → AreReached f o reached
     → NoSilentSlip (loaded_file f) (loaded_file (file_read (lean_file f o every blocks words))) reached (data_ranges (image_of f)) (base_of (image_of f)) (half_of o.half (image_of f))
     (lean_bounds f o every) (undisturbed_piece o.land (length (data_ranges (image_of f))) o.round) (undisturbed_ends (data_ranges (image_of f)))
+
+-- a store to other data words is caught
+abbrev pub LeanTestsPlaces : Type 0
+LeanTestsPlaces =
+    (f : ElfFile) (o : Options) (every : ℕ) (blocks : List Block) (words : List ℕ)
+    → IsLeanTest f o every blocks words → (reached : ℕ → Bool) → AreReached f o reached
+    → PlacesFound (loaded_file f) (loaded_file (file_read (lean_file f o every blocks words))) reached (data_ranges (image_of f))
+    (lean_bounds f o every) (lean_bounds f o every).start (lean_bounds f o every).piece
+
+-- with the sweep no wrong instruction of the test before it is silent at the end
+abbrev pub LeanTestsFaultsClean : Type 0
+LeanTestsFaultsClean =
+    (f : ElfFile) (o : Options) (every : ℕ) (blocks : List Block) (words : List ℕ)
+    → IsLeanTest f o every blocks words → o.sweep ≡ true → (reached : ℕ → Bool) → AreReached f o reached
+    → FaultsClean (loaded_file f) (loaded_file (file_read (lean_file f o every blocks words))) reached (data_ranges (image_of f))
+    (sweep_cost (data_ranges (image_of f)) + 14) (lean_bounds f o every).start (lean_bounds f o every).piece
+
+-- with the sweep no run with a wrong instruction ends wrong
+abbrev pub LeanTestsNoWrongEnd : Type 0
+LeanTestsNoWrongEnd =
+    (f : ElfFile) (o : Options) (every : ℕ) (blocks : List Block) (words : List ℕ)
+    → IsLeanTest f o every blocks words → o.sweep ≡ true → (reached : ℕ → Bool) → AreReached f o reached
+    → NoWrongEnd (loaded_file f) (loaded_file (file_read (lean_file f o every blocks words))) reached (data_ranges (image_of f)) (base_of (image_of f)) (half_of o.half (image_of f))
 
 -- with the sweep no change before it is silent at the end
 abbrev pub LeanTestsClean : Type 0

@@ -5,6 +5,8 @@ use Rattle.machine.specs.declared.outcome.Outcome.TheVariants.{Going, Ended}
 use Rattle.machine.specs.declared.place.Place.{Place}
 use Rattle.machine.specs.declared.place.Place.TheVariants.{Reg, Word}
 use Rattle.rv_isa.specs.declared.class.Class.TheVariants as class
+use Rattle.rv_isa.specs.Kind.{writes_rd}
+use Rattle.rv_isa.specs.Operation.{ReadsRegister}
 use Rattle.machine.specs.Values.{width_of}
 use Rattle.machine.specs.Memory.{get, put, byte_at, flags_at, allows}
 use Rattle.machine.specs.Program.{Program, memory_of, start, AreStartRegs}
@@ -72,6 +74,33 @@ abbrev pub AllDuplicate : Program → ℕ → ℕ → List Change → Type 0
 AllDuplicate g base distance [] = Unit {0}
 AllDuplicate g base distance (c ∷ cs) = IsDuplicate g base distance c.place × AllDuplicate g base distance cs
 
+-- ---- changes of registers while their values wait for no use
+-- u goes on at an instruction that computes, loads or links register r
+pub record Sets (r : ℕ) (u : State) : Type 0 where
+  pub ins : Ins
+  pub going : u.outcome ≡ Going
+  pub known : next u ≡ Known ins
+  pub sets : writes_rd (class_of ins.kind) ≡ true
+  pub rd : ins.rd ≡ r
+
+-- before each instruction of the run that reads r, from step n on, another one sets it: its value at step n waits for no use
+abbrev pub IsIdle : (ℕ → State) → ℕ → ℕ → Type 0
+IsIdle states r n = (k : ℕ) (i : Ins) → (states (n + k)).outcome ≡ Going → next (states (n + k)) ≡ Known i → ReadsRegister i r → (j : ℕ) × (j < k) × Sets r (states (n + j))
+
+-- x30 and x31
+abbrev pub IsTemporary : ℕ → Type 0
+IsTemporary r = (r ≡ TEMPORARY) ⊎ (r ≡ SPARE)
+
+-- x30 or x31, which waits for no use at step n
+abbrev pub IsIdlePlace : (ℕ → State) → ℕ → Place → Type 0
+IsIdlePlace states n (Reg r) = IsTemporary r × IsIdle states r n
+IsIdlePlace states n (Word a) = ⊥
+
+-- each change is of the duplicate half, or of such a register at its step of the run
+abbrev pub AllMay : Program → ℕ → ℕ → (ℕ → State) → List Change → Type 0
+AllMay g base distance states [] = Unit {0}
+AllMay g base distance states (c ∷ cs) = (IsDuplicate g base distance c.place ⊎ IsIdlePlace states c.step c.place) × AllMay g base distance states cs
+
 -- ---- slips of its instructions
 -- v is the state behind the instruction i of u if it goes wrong once: it gives such a register any number, or stores any number
 -- anywhere in the duplicate half, or is skipped
@@ -136,14 +165,14 @@ change_price bound ends top = bound + ends + top
 
 -- from such a state the run comes to each later state of the input, as long as the input is steady, or is over. In steps,
 -- `bound` is for each step of the input and once more, and `ends` for the end of the test.
--- From its start, with any changes of the duplicate half at any steps, it comes to the input's states in their order; so it does if
--- one instruction that writes into the duplicate half goes wrong
+-- From its start it comes to the input's states in their order, with any changes of the duplicate half at any steps, and of x30 and
+-- x31 while their values wait for no use. So it does if one instruction that writes into the duplicate half goes wrong
 pub record Undisturbed (f g : Program) (reached : ℕ → Bool) (base distance : ℕ) (entry : ℕ → ℕ) (blocks : List Block) (bound ends : ℕ) : Type 0 where
   pub follows :
       (k n : ℕ) (u : State) → (after_input f k).outcome ≡ Going → begins_at blocks (after_input f k).pc ≡ true → HasOriginals f g base distance entry (after_input f k) u
       → Steady f reached (k + n) → ComesTo f (after_input f (k + n)) u ((n + 1) * bound + ends)
   pub keeps :
-      (regs : List ℕ) (cs : List Change) (n top : ℕ) → AreStartRegs regs → AllDuplicate g base distance cs → ((q : ℕ) → top ≤ q → is_mapped g q ≡ false) → top + 8 ≤ 2 ^ 64
+      (regs : List ℕ) (cs : List Change) (n top : ℕ) → AreStartRegs regs → AllMay g base distance (changed_run (start g regs) cs) cs → ((q : ℕ) → top ≤ q → is_mapped g q ≡ false) → top + 8 ≤ 2 ^ 64
       → Steady f reached n → FollowsTo f n (31 + bound + ends + length cs * change_price bound ends top) bound (changed_run (start g regs) cs)
   pub slips :
       (regs : List ℕ) (m n top : ℕ) (i : Ins) (v : State) → AreStartRegs regs → (after_output g regs m).outcome ≡ Going → next (after_output g regs m) ≡ Known i → (after_output g regs (m + 1)).outcome ≡ Going

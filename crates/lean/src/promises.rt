@@ -1,6 +1,7 @@
 //! What is promised of the lean form.
 ghost use Rattle.lean.specs.Tests.{LeanTestsHaveWords, LeanTestsWritable, LeanTestsKept, LeanTestsCaught, LeanTestsFaults};
 ghost use Rattle.lean.specs.Tests.{LeanTestsLanded, LeanTestsStrayed, LeanTestsDisplaced, LeanTestsAdrift, LeanTestsUndisturbed, LeanTestsNoSilentSlip, LeanTestsClean};
+ghost use Rattle.lean.specs.Tests.{LeanTestsPlaces, LeanTestsFaultsClean, LeanTestsNoWrongEnd};
 ghost use Rattle.lean.specs.Woven.{LeanKept, LeanKeptInStep, LeanCaught, LeanLanded, LeanStrayed, LeanDisplaced, LeanAdrift, LeanUndisturbed, LeanClean};
 
 /// A plan of the form keeps the input's values, with a bound on the steps of the output for each step of the input, and
@@ -106,6 +107,21 @@ pub fn lean_tests_undisturbed()
 /// No single wrong instruction ends silently wrong.
 pub fn lean_tests_no_silent_slip()
     ensures { LeanTestsNoSilentSlip }
+{}
+
+/// A store to other data words is caught.
+pub fn lean_tests_places()
+    ensures { LeanTestsPlaces }
+{}
+
+/// With the sweep no wrong instruction of the test before it is silent at the end.
+pub fn lean_tests_faults_clean()
+    ensures { LeanTestsFaultsClean }
+{}
+
+/// With the sweep no run with one wrong instruction ends wrong.
+pub fn lean_tests_no_wrong_end()
+    ensures { LeanTestsNoWrongEnd }
 {}
 
 /// With the sweep no change before it is silent at the end.

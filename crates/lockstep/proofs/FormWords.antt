@@ -1,5 +1,5 @@
 -- Today's forms meet the laws of the words and the entry, so the promises of a plan follow from those of any weave.
-use Rattle.std.proofs.Common.{◌≡◌, ℕ, zero, suc, ◌+◌, ◌*◌, ◌≤◌, List, [], ◌∷◌, ◌++◌, length, refl, sym, ap, ◌∙◌, subst, arith}
+use Rattle.std.proofs.Common.{◌≡◌, ℕ, zero, suc, ◌+◌, ◌*◌, ◌≤◌, true, List, [], ◌∷◌, ◌++◌, length, refl, sym, ap, ◌∙◌, subst, arith}
 use Rattle.std.proofs.Math.Nat.{mul-le-mul}
 use Rattle.qed_model.specs.Weave.Bounds.{visit_bound, word_bound}
 use Rattle.tests.specs.Admission.DataRanges.{word_count}
@@ -19,7 +19,8 @@ use Rattle.weave_core.specs.World.{World, Item, Program}
 use Rattle.weave_core.specs.Rows.{Mirrors}
 use Rattle.weave_core.specs.WeavePromise.{PlanOf, OnlyCode, BoundsOf}
 use Rattle.weave_core.specs.WeaveForms.{weave_with, weave_of, ChecksLaws}
-use Rattle.lockstep.proofs.Weaves.{catches_all, weave_caught, weave_clean}
+use Rattle.lockstep.proofs.Cleaned.{CleanAll}
+use Rattle.lockstep.proofs.Weaves.{catches_all, cleans_all, weave_caught, weave_clean}
 use Rattle.lockstep.proofs.Promise.{CaughtAll}
 
 -- ---- the words
@@ -99,3 +100,11 @@ plan_clean f g w most blocks p law closes some sweeps =
     subst (λ n. CleanInStep f g w.reached w.form.spans last n (piece_of w.form most)) (sym (start_is w most))
     (subst (λ n. CleanInStep f g w.reached w.form.spans last (most_before_start (weave_of w.form most)) n) (sym (stage_is w most))
     (weave_clean f g w (weave_of w.form most) blocks p (form_rows w most (begins_at blocks) law) (form_starts w most (begins_at blocks) f g) (form_words w.form most closes.mirrors) closes.only some (omega arith) (omega (arith, ten)) sweeps))
+
+-- nor at places that are open for Lock alone
+pub plan_clean_all :
+    (f g : Program) (w : World) (most : ℕ) (blocks : List Block) → PlanOf f g w (weave_of w.form most) blocks → Mirrors w → Closes f g w blocks → 1 ≤ w.form.round → w.form.sweep ≡ true
+    → CleanAll f g w (most_before_start (weave_of w.form most)) (stage_steps (weave_of w.form most)) (sweep_cost w.form.spans + 14)
+plan_clean_all f g w most blocks p law closes some sweeps =
+    let ten = visits_ten w.form.spans w.form.round some in
+    cleans_all f g w (weave_of w.form most) blocks p (form_rows w most (begins_at blocks) law) (form_starts w most (begins_at blocks) f g) (form_words w.form most closes.mirrors) closes.only some (omega arith) (omega (arith, ten)) sweeps

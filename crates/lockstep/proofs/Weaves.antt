@@ -18,7 +18,7 @@ use Rattle.weave_core.proofs.Lemmas.{WeaveIn, in_step, quiet_before, plan_in}
 use Rattle.lockstep.proofs.Numbered.{round_some}
 use Rattle.lockstep.proofs.Beating.{sizes, traced, Bound, swept_end}
 use Rattle.lockstep.proofs.Calm.{CalmCode}
-use Rattle.lockstep.proofs.Cleaned.{cleaned}
+use Rattle.lockstep.proofs.Cleaned.{cleaned, CleanAll, clean_of}
 use Rattle.lockstep.proofs.Coded.{word_at, entries_open}
 use Rattle.lockstep.proofs.Promise.{Times, BoundsBy, settles_all, CaughtAll, caught_of}
 use Rattle.lockstep.proofs.Trace.{Sizes}
@@ -107,11 +107,14 @@ module _ (f g : Program) (w : World) (v : Weave) (blocks : List Block) (plan : P
   catches bounds are = caught_of f g w (most_before_start v) (stage_steps v) bounds code (catches_all bounds are)
 
   -- with the sweep none ends silently
-  pub cleans : v.sweeps ≡ true → CleanInStep f g w.reached w.form.spans (v.sweep_steps + 14) (most_before_start v) (stage_steps v)
-  cleans sweeps = record {
+  pub cleans_all : v.sweeps ≡ true → CleanAll f g w (most_before_start v) (stage_steps v) (v.sweep_steps + 14)
+  cleans_all sweeps = record {
     settles = λ regs cs e start ordered free early ended first steady.
         cleaned f g w (most_before_start v) (stage_steps v) code v.sweep_steps regs start cs e ordered free early ended first steady (λ always going. swept_end f g w v (begins_at blocks) rows woven two room regs start e always sweeps ended going);
   }
+
+  pub cleans : v.sweeps ≡ true → CleanInStep f g w.reached w.form.spans (v.sweep_steps + 14) (most_before_start v) (stage_steps v)
+  cleans sweeps = clean_of f g w (most_before_start v) (stage_steps v) (v.sweep_steps + 14) code (cleans_all sweeps)
 
 pub weave_caught : WeaveCaught
 weave_caught f g w v blocks bounds plan rows starts law closes some two room are = catches f g w v blocks plan rows starts law closes some two room bounds are

@@ -9,11 +9,12 @@ use Rattle.machine.specs.declared.place.Place.TheVariants.{Reg}
 use Rattle.machine.specs.declared.outcome.Cause.TheVariants as cause
 use Rattle.weave_core.specs.World.{Going, Ended, Fired, put, number, grants, State, reg, moved, stored, trapped, next_pc, place, result, execute, Fetched, Known, next, step, run, Ins, Class, class_of, set_reg, width_of, loaded}
 use Rattle.machine.specs.Struck.{struck}
-use Rattle.qed_model.specs.Promise.Changed.{changed, changed_as, with_changes, changed_run}
+use Rattle.qed_model.specs.Promise.Changed.{changed, changed_as, with_changes, changed_run, Ordered, last_step}
 use Rattle.qed_model.specs.Promise.Caught.{Same}
 use Rattle.qed_model.specs.Promise.InStep.{SameBeside, IsSettled, SettlesWithin}
 use Rattle.qed_model.specs.Promise.Kept.{is_trapped, NotTrapped}
 use Rattle.machine.proofs.Lemmas.{step-class, run-more, run-last}
+use Rattle.qed_model.proofs.Lemmas.{AllBy, struck_outcome}
 use Rattle.weave_core.specs.Lock.{Opens, HasKind, scratch_compute, scratch_load, scratch_store, scratch_branch, jumps, scratch_jump, computes, fences, loads, stores as stores_kind, guards, guards_back, breaks, takes, branches, forks, ends, no_word, visits}
 use Rattle.weave_core.proofs.Lemmas.{run-ended}
 use Rattle.qed_model.specs.Promise.Faults.{WritesOriginal, GivesAny, gives, skips}
@@ -132,7 +133,7 @@ unchanged_before s cs (suc n) h =
     none_yet (suc n) cs (step (changed_run s cs n)) h ∙ ap step (unchanged_before s cs n (behind_less n cs h)) ∙ sym (run-last s n) ∙ ap (run s) next
 
 -- one step on the changes are made
-pub changed_there : (s : State) (cs : List Change) (n : ℕ) → AllBehind n cs → changed_run s cs (n + 1) ≡ with_changes cs (n + 1) (run s (n + 1))
+changed_there : (s : State) (cs : List Change) (n : ℕ) → AllBehind n cs → changed_run s cs (n + 1) ≡ with_changes cs (n + 1) (run s (n + 1))
 unfolding changed_run
 changed_there s cs n h =
     let next : n + 1 ≡ suc n = omega arith in
@@ -141,19 +142,44 @@ changed_there s cs n h =
     ∙ ap (λ m. with_changes cs m (step (run s n))) (sym next)
     ∙ ap (with_changes cs (n + 1)) (sym (run-last s n))
 
--- one change
-pub with_one : (c : Change) (n : ℕ) (u : State) → c.step ≡ n → u.outcome ≡ Going → with_changes (c ∷ []) n u ≡ struck c.place c.value u
-unfolding with_changes
-with_one c n u e go = ap (λ b. cond b (changed c u) u) (eq-eqb c.step n e) ∙ ap (λ o. changed_as o c u) go
+-- each change comes behind step t alone
+abbrev pub AllAt : ℕ → List Change → Type 0
+AllAt t [] = Unit {0}
+AllAt t (c ∷ cs) = (c.step ≡ t) × AllAt t cs
 
--- two changes, of words
-pub with_two :
-    (c d : Change) (n : ℕ) (u : State) → c.step ≡ n → d.step ≡ n → u.outcome ≡ Going → (struck c.place c.value u).outcome ≡ Going
-    → with_changes (c ∷ d ∷ []) n u ≡ struck d.place d.value (struck c.place c.value u)
+pub behind_at : (t n : ℕ) (cs : List Change) → n < t → AllAt t cs → AllBehind n cs
+behind_at t n [] l h = tt
+behind_at t n (c ∷ cs) l h = (omega (arith, l, h.0), behind_at t n cs l h.1)
+
+pub by_at : (t : ℕ) (cs : List Change) → AllAt t cs → AllBy t cs
+by_at t [] h = tt
+by_at t (c ∷ cs) h = (omega (arith, h.0), by_at t cs h.1)
+
+pub ordered_at : (t : ℕ) (cs : List Change) → AllAt t cs → Ordered cs
+ordered_at t [] h = tt
+ordered_at t (c ∷ []) h = tt
+ordered_at t (c ∷ d ∷ cs) h = (omega (arith, h.0, h.1.0), ordered_at t (d ∷ cs) h.1)
+
+pub last_at : (t : ℕ) (c : Change) (cs : List Change) → AllAt t (c ∷ cs) → last_step (c ∷ cs) ≡ t
+last_at t c [] h = h.0
+last_at t c (d ∷ cs) h = last_at t d cs h.1
+
+-- the places of a list with other numbers
+abbrev pub struck_all : List Change → State → State
+struck_all [] u = u
+struck_all (c ∷ cs) u = struck_all cs (struck c.place c.value u)
+
+with_all : (cs : List Change) (t : ℕ) (u : State) → AllAt t cs → u.outcome ≡ Going → with_changes cs t u ≡ struck_all cs u
 unfolding with_changes
-with_two c d n u e f go on =
-    ap (λ b. with_changes (d ∷ []) n (cond b (changed c u) u)) (eq-eqb c.step n e) ∙ ap (λ o. with_changes (d ∷ []) n (changed_as o c u)) go
-    ∙ with_one d n (struck c.place c.value u) f on
+with_all [] t u h go = refl
+with_all (c ∷ cs) t u h go =
+    ap (λ b. with_changes cs t (cond b (changed c u) u)) (eq-eqb c.step t h.0) ∙ ap (λ o. with_changes cs t (changed_as o c u)) go
+    ∙ with_all cs t (struck c.place c.value u) h.1 (struck_outcome c.place c.value u ∙ go)
+
+-- so they stand behind that step
+pub changed_all :
+    (s : State) (cs : List Change) (n : ℕ) → AllAt (n + 1) cs → (run s (n + 1)).outcome ≡ Going → changed_run s cs (n + 1) ≡ struck_all cs (run s (n + 1))
+changed_all s cs n h go = changed_there s cs n (behind_at (n + 1) n cs (omega arith) h) ∙ with_all cs (n + 1) (run s (n + 1)) h go
 
 -- ---- what settles is found out
 pub found_out :

@@ -42,6 +42,10 @@ beside_put p n x m small = record { outside = λ q h. get-put_outside m p n x q 
 pub beside_self : (p n : ℕ) (m : Memory) → ((q : ℕ) → byte_at m q < 256) → Beside p n m m
 beside_self p n m small = record { outside = λ q h. refl; flags = λ q. refl; small = small }
 
+-- what stood in the window does not matter
+pub beside_over : (p n x : ℕ) (m o : Memory) → Beside p n m o → Beside p n (put m p n x) o
+beside_over p n x m o b = record { outside = λ q h. b.outside q h ∙ sym (get-put_outside m p n x q h); flags = λ q. b.flags q ∙ sym (flags-put m p n x q); small = b.small }
+
 -- a cell that gets the byte of another one with its permissions is that one
 same_cell : (o : Option Cell) (c : Option Cell) (k : ℕ) → option_map (λ x. x.flags) o ≡ option_map (λ x. x.flags) c → k ≡ byte_in c → option_map (λ x. with_byte k x) o ≡ c
 same_cell None None k e b = refl
@@ -54,6 +58,9 @@ pub no_cell : (o : Option Cell) (c : Option Cell) → option_map (λ x. x.flags)
 no_cell None c e n = refl
 no_cell (Some o) None e n = absurd (cc)
 no_cell (Some o) (Some c) e n = absurd (cc)
+
+pub keys_by : (m o : Memory) → ((q : ℕ) → flags_at o q ≡ flags_at m q) → ((q : ℕ) → 2 ^ 64 ≤ q → get m q ≡ None) → (q : ℕ) → 2 ^ 64 ≤ q → get o q ≡ None
+keys_by m o same keys q h = no_cell (get o q) (get m q) (same q) (keys q h)
 
 -- the eight bytes of a word are written as they stand in another memory
 written_word :
@@ -82,37 +89,37 @@ out_of_both p n q one most l top out last = ⊎_elim (λ h. absurd (inside h)) (
 
 -- both words are written as they stand there
 pub two_words :
-    (m o : Memory) (p n x : ℕ) → 1 ≤ n → n ≤ 8 → p + n ≤ 2 ^ 64 → word_around (p + n - 1) < 2 ^ 64 → Beside p n m o → ((q : ℕ) → 2 ^ 64 ≤ q → get m q ≡ None)
-    → put (put (put m p n x) (word_around p) 8 (number o (word_around p) 8)) (word_around (p + n - 1)) 8 (number o (word_around (p + n - 1)) 8) ≡ o
-two_words m o p n x one most top high b keys = same_memory _ _ each where
-  flags_first : (q : ℕ) → flags_at (put m p n x) q ≡ flags_at o q
-  flags_first q = flags-put m p n x q ∙ sym (b.flags q)
+    (m o : Memory) (p n : ℕ) → 1 ≤ n → n ≤ 8 → p + n ≤ 2 ^ 64 → word_around (p + n - 1) < 2 ^ 64 → Beside p n m o → ((q : ℕ) → 2 ^ 64 ≤ q → get m q ≡ None)
+    → put (put m (word_around p) 8 (number o (word_around p) 8)) (word_around (p + n - 1)) 8 (number o (word_around (p + n - 1)) 8) ≡ o
+two_words m o p n one most top high b keys = same_memory _ _ each where
+  flags_first : (q : ℕ) → flags_at m q ≡ flags_at o q
+  flags_first q = sym (b.flags q)
 
-  flags_second : (q : ℕ) → flags_at (put (put m p n x) (word_around p) 8 (number o (word_around p) 8)) q ≡ flags_at o q
-  flags_second q = flags-put (put m p n x) (word_around p) 8 (number o (word_around p) 8) q ∙ flags_first q
+  flags_second : (q : ℕ) → flags_at (put m (word_around p) 8 (number o (word_around p) 8)) q ≡ flags_at o q
+  flags_second q = flags-put m (word_around p) 8 (number o (word_around p) 8) q ∙ flags_first q
 
   low : word_around p < 2 ^ 64
   low = omega (arith, top, one)
 
-  each : (q : ℕ) → get (put (put (put m p n x) (word_around p) 8 (number o (word_around p) 8)) (word_around (p + n - 1)) 8 (number o (word_around (p + n - 1)) 8)) q ≡ get o q
+  each : (q : ℕ) → get (put (put m (word_around p) 8 (number o (word_around p) 8)) (word_around (p + n - 1)) 8 (number o (word_around (p + n - 1)) 8)) q ≡ get o q
   each q = ⊎_elim (λ l. at l) (λ h. behind h) (cases_lt q (2 ^ 64)) where
     -- no address
-    behind : 2 ^ 64 ≤ q → get (put (put (put m p n x) (word_around p) 8 (number o (word_around p) 8)) (word_around (p + n - 1)) 8 (number o (word_around (p + n - 1)) 8)) q ≡ get o q
+    behind : 2 ^ 64 ≤ q → get (put (put m (word_around p) 8 (number o (word_around p) 8)) (word_around (p + n - 1)) 8 (number o (word_around (p + n - 1)) 8)) q ≡ get o q
     behind h =
         let none : get o q ≡ None = no_cell (get o q) (get m q) (b.flags q) (keys q h) in
-        no_cell _ (get o q) (flags-put (put (put m p n x) (word_around p) 8 (number o (word_around p) 8)) (word_around (p + n - 1)) 8 (number o (word_around (p + n - 1)) 8) q ∙ flags_second q) none ∙ sym none
+        no_cell _ (get o q) (flags-put (put m (word_around p) 8 (number o (word_around p) 8)) (word_around (p + n - 1)) 8 (number o (word_around (p + n - 1)) 8) q ∙ flags_second q) none ∙ sym none
 
-    at : q < 2 ^ 64 → get (put (put (put m p n x) (word_around p) 8 (number o (word_around p) 8)) (word_around (p + n - 1)) 8 (number o (word_around (p + n - 1)) 8)) q ≡ get o q
+    at : q < 2 ^ 64 → get (put (put m (word_around p) 8 (number o (word_around p) 8)) (word_around (p + n - 1)) 8 (number o (word_around (p + n - 1)) 8)) q ≡ get o q
     at l =
         ⊎_elim
-        (λ h. written_word (put (put m p n x) (word_around p) 8 (number o (word_around p) 8)) o (word_around (p + n - 1)) q b.small high l h (flags_second q))
+        (λ h. written_word (put m (word_around p) 8 (number o (word_around p) 8)) o (word_around (p + n - 1)) q b.small high l h (flags_second q))
         (λ h.
-        get-put_outside (put (put m p n x) (word_around p) 8 (number o (word_around p) 8)) (word_around (p + n - 1)) 8 (number o (word_around (p + n - 1)) 8) q h
+        get-put_outside (put m (word_around p) 8 (number o (word_around p) 8)) (word_around (p + n - 1)) 8 (number o (word_around (p + n - 1)) 8) q h
         ∙ ⊎_elim
-        (λ k. written_word (put m p n x) o (word_around p) q b.small low l k (flags_first q))
+        (λ k. written_word m o (word_around p) q b.small low l k (flags_first q))
         (λ k.
         let out = out_of_both p n q one most l top k h in
-        get-put_outside (put m p n x) (word_around p) 8 (number o (word_around p) 8) q k ∙ get-put_outside m p n x q out ∙ sym (b.outside q out))
+        get-put_outside m (word_around p) 8 (number o (word_around p) 8) q k ∙ sym (b.outside q out))
         (cases_lt (offset (word_around p) q) 8))
         (cases_lt (offset (word_around (p + n - 1)) q) 8)
 
@@ -126,9 +133,7 @@ pub any_beside : (i : Ins) (u v : State) → ((q : ℕ) → byte_at u.memory q <
 any_beside i u v small (stores x e) = record { memory = put u.memory (place i u) (width_of i.kind) x; beside = beside_put (place i u) (width_of i.kind) x u.memory small; is = e }
 any_beside i u v small (leaves e) = record { memory = u.memory; beside = beside_self (place i u) (width_of i.kind) u.memory small; is = e }
 
--- two changes of words, one behind the other
-pub struck_words :
-    (i : Ins) (u : State) (x : ℕ) (o : Memory) (a y b z : ℕ) → put (put (put u.memory (place i u) (width_of i.kind) x) a 8 y) b 8 z ≡ o
-    → struck (Word b) z (struck (Word a) y (stored (put u.memory (place i u) (width_of i.kind) x) (next_pc u) u)) ≡ stored o (next_pc u) u
+-- a change of a word
+pub struck_word : (a y pc : ℕ) (m : Memory) (u : State) → struck (Word a) y (stored m pc u) ≡ stored (put m a 8 y) pc u
 unfolding struck
-struck_words i u x o a y b z e = ap (λ m. stored m (next_pc u) u) e
+struck_word a y pc m u = refl

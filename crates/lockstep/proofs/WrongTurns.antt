@@ -1,9 +1,8 @@
 -- In the default form a branch on x0 to x13 that goes the wrong way leads to an entry whose signature is that of the other way.
 use Rattle.std.proofs.Common.{◌≡◌, ℕ, ◌+◌, ◌-◌, ◌*◌, ◌%◌, ◌^◌, ◌<◌, ◌≤◌, ⊎_elim, Bool, true, false, not, List, ◌∷◌, ◌++◌, length, refl, sym, ap, ◌∙◌, subst, arith, append_assoc, length-append}
-use Rattle.std.specs.Prelude.{◌⊎◌, pos, slice_index}
+use Rattle.std.specs.Prelude.{pos, slice_index}
 use Rattle.std.proofs.lemmas.Bool.{cases_Bool, cases_eq}
 use Rattle.std.proofs.lemmas.List.{ext_get_or}
-use Rattle.rv_isa.specs.declared.class.Class.TheVariants as class
 use Rattle.rv_isa.proofs.RegsLaws.{slice_index-set_reg_same, slice_index-set_reg_other, length-set_reg}
 use Rattle.machine.proofs.Lemmas.{run-more, run-last, constant_walk, set_reg-pos, over_moved}
 use Rattle.qed_model.specs.Promise.Faults.{IsOwnBranch, other_way, misled, IsTurned, turns, joins, strays, BranchesFound}

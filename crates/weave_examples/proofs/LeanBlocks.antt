@@ -16,9 +16,9 @@ use Rattle.qed_model.proofs.Lemmas.{IsCodeOf, defaults}
 use Rattle.weave_core.specs.World.{Ins, class_of}
 use Rattle.weave_examples.proofs.ListedRuns.{every_all}
 
--- the options: those of no option beside the form, with short pieces
+-- the options: the form with `land` and the sweep, and short pieces
 abbrev pub options : Options
-options = record { inst_min = 4; inst_max = 16; round = 1; half = None; sweep = false; diverse = false; entries = entries.Reached; lean = Some 1200; land = true }
+options = record { inst_min = 4; inst_max = 16; round = 1; half = None; sweep = true; diverse = false; entries = entries.Reached; lean = Some 1200; land = true }
 
 pub sound : AreSoundOptions options
 sound = record { some = omega arith; room = omega arith; most = omega arith; visits = omega arith; few_visits = omega arith; half = tt; lean = (refl, omega arith, omega arith) }

@@ -1,7 +1,7 @@
 -- The known test with a loop in the lean form, with entries that test the signature: it has words. Its
 -- promises on jumps that land wrong, x14, the duplicate half and wrong instructions are at work, with computed runs.
 use Rattle.std.proofs.Common.{◌≡◌, ◌⊎◌, inl, inr, ⊎_elim, ℕ, zero, suc, ◌+◌, ◌*◌, ◌<◌, ◌≤◌, true, false, List, [], ◌∷◌, length, Option, Some, None, is_some, refl, sym, ap, ◌∙◌, subst, arith}
-use Rattle.std.specs.Prelude.{pos, slice_index}
+use Rattle.std.specs.Prelude.{pos, neg_ℤ, slice_index}
 use Rattle.std.proofs.lemmas.Bool.{false≢true}
 use Rattle.tests.specs.Elf.FileRead.{file_read}
 use Rattle.machine.specs.Loading.{loaded_file}
@@ -29,9 +29,10 @@ use Rattle.weave_core.proofs.FileOfItems as of
 use Rattle.weave_core.proofs.FilesFit.{length-table}
 use Rattle.lean.specs.Tests.{AreLeanBlocks, IsLeanTest, lean_file}
 use Rattle.machine.specs.Members.{Among, Every}
-use Rattle.machine.specs.Table.{Ecall, ins}
+use Rattle.rv_isa.specs.Operation.{ReadsRegister}
+use Rattle.machine.specs.Table.{Auipc, Ecall, ins}
 use Rattle.lean.specs.Strayed.{IsInBlock, Strayed, Displaced, Adrift, Stopped, HasCount, with_distance, displaced_steps, code_in, entry_in}
-use Rattle.lean.specs.Undisturbed.{Undisturbed, HasOriginals, ComesTo, FollowsTo, AllDuplicate, undisturbed_piece, undisturbed_ends, change_price, slipped_run, writes}
+use Rattle.lean.specs.Undisturbed.{Undisturbed, HasOriginals, ComesTo, FollowsTo, AllMay, IsIdle, undisturbed_piece, undisturbed_ends, change_price, slipped_run, writes}
 use Rattle.lean.proofs.Weave.Tests as lean
 use Rattle.weave_examples.proofs.KnownFiles.{loop, loop_sound}
 use Rattle.weave_examples.proofs.LeanBlocks.{options, sound, are_lean}
@@ -180,7 +181,7 @@ unfolding execute jumped computed_value value holds
 undisturbed_fires = ap (λ s. s.outcome) (runs 12 (state_of lean_output all_five 0x1314c Going) refl refl refl)
 
 -- ---- a wrong instruction: the first one gives 7, not 0. The set of reached addresses is empty
-lean_faults : FaultsFound loop_input lean_output none [] (lean_bounds loop options 1200) 31 182
+lean_faults : FaultsFound loop_input lean_output none [] (lean_bounds loop options 1200) 45 182
 lean_faults = lean.tests_faults loop options 1200 loop_blocks lean_words.0 lean_words.1 none (λ e a h. absurd (false≢true h))
 
 at_start : after_output lean_output zeros 0 ≡ state_of lean_output zeros 0x13000 Going
@@ -194,10 +195,10 @@ abbrev wrong_first : State
 wrong_first = moved (set_reg 1 7 (after_output lean_output zeros 0).regs) (next_pc (after_output lean_output zeros 0)) (after_output lean_output zeros 0)
 
 -- all premises of the promise are met
-first_settles : SettlesWithin [] 0 1313 (run wrong_first) (λ k. after_output lean_output zeros (1 + k))
+first_settles : SettlesWithin [] 0 1327 (run wrong_first) (λ k. after_output lean_output zeros (1 + k))
 first_settles =
     lean_faults.results zeros 0 (ins Addi 1 0 0 (pos 0)) wrong_first zeros_start (ap (λ s. s.outcome) at_start) first_next (record { writes = inl refl; some = omega arith; low = omega arith })
-    (gives 7 refl) (covers_steady loop_input lean_output none 31 182 zeros (1 + 1313) (steady_none (1 + 1313) (omega arith)))
+    (gives 7 refl) (covers_steady loop_input lean_output none 45 182 zeros (1 + 1327) (steady_none (1 + 1327) (omega arith)))
 
 -- the first check fires 42 steps later
 first_fires : (run wrong_first 42).outcome ≡ Fired
@@ -206,7 +207,7 @@ first_fires = ap (λ s. (run (moved (set_reg 1 7 s.regs) (next_pc s) s) 42).outc
 
 -- ---- changes of the duplicate half, at any steps
 -- the new code ends below 0x14000
-size : length (bytes_of lean_words.0) ≡ 608
+size : length (bytes_of lean_words.0) ≡ 712
 size = of.length-code loop options sound loop_sound.loads cut.admitted loop_blocks cut.are false true (lean_items loop options 1200 loop_blocks) lean_words.0 (lean.are_items loop options 1200 loop_blocks cut lean_words.0 lean_words.1)
 
 table_size : length (table_bytes 4096 (rows_from false 0x13000 (lean_items loop options 1200 loop_blocks))) ≡ 16
@@ -245,21 +246,56 @@ nine = record { step = 40; place = Reg 20; value = 9 }
 abbrev word : Change
 word = record { step = 45; place = Word 0x11000; value = 7 }
 
-duplicate : AllDuplicate lean_output 0x10000 4096 (few ∷ nine ∷ word ∷ [])
-duplicate = (inl refl, (inr (omega arith, omega arith), (record { above = omega arith; below = omega arith; no_code = λ q a b. unexecuted q (omega (arith, b)) }, tt)))
+-- at that entry x30 is 7, and the next instruction sets it
+abbrev idle : Change
+idle = record { step = 31; place = Reg 30; value = 7 }
+
+abbrev four : List Change
+four = few ∷ idle ∷ nine ∷ word ∷ []
+
+-- the run with them
+abbrev changing : ℕ → State
+changing n = changed_run (start lean_output zeros) four n
+
+at_tick : changing 31 ≡ state_of lean_output (set_reg 30 7 (set_reg 15 0 first_entry)) 0x1314c Going
+unfolding changed_run with_changes struck execute jumped computed_value value holds
+at_tick = changes_go 0x13000 new_code (omega arith) (start lean_output zeros) four 0 31 (start lean_output zeros) (tt, (tt, (tt, (omega arith, tt)))) refl stand refl
+
+abbrev entry_word : Ins
+entry_word = ins Auipc 30 0 0 (neg_ℤ (pos 0x3000))
+
+entry_sets : next (changing 31) ≡ Known entry_word
+entry_sets = ap next at_tick ∙ found (fetched_at (memory_of lean_output.segments) lean_output.ranges) 0x13000 new_code 0x1314c entry_word stand refl
+
+no_register : {r : ℕ} → None ≡ Some r → ⊥
+no_register e = absurd (cc)
+
+unread : ReadsRegister entry_word 30 → ⊥
+unread (inl e) = no_register e
+unread (inr e) = no_register e
+
+same_ins : {i j : Ins} → Known i ≡ Known j → i ≡ j
+same_ins e = cc
+
+waits_for_no_use : IsIdle changing 30 31
+waits_for_no_use zero i going known reads = let e : i ≡ entry_word = same_ins (sym known ∙ entry_sets) in absurd (unread (subst (λ j. ReadsRegister j 30) e reads))
+waits_for_no_use (suc k) i going known reads = (0, omega arith, record { ins = entry_word; going = ap (λ s. s.outcome) at_tick; known = entry_sets; sets = refl; rd = refl })
+
+duplicate : AllMay lean_output 0x10000 4096 changing four
+duplicate = (inl (inl refl), (inr (inl refl, waits_for_no_use), (inl (inr (omega arith, omega arith)), (inl (record { above = omega arith; below = omega arith; no_code = λ q a b. unexecuted q (omega (arith, b)) }), tt))))
 
 -- all premises are met
-keeps_there : FollowsTo loop_input 6 (31 + undisturbed_piece true 0 1 + undisturbed_ends [] + 3 * change_price (undisturbed_piece true 0 1) (undisturbed_ends []) 0x14000) (undisturbed_piece true 0 1) (changed_run (start lean_output zeros) (few ∷ nine ∷ word ∷ []))
-keeps_there = undisturbed.keeps zeros (few ∷ nine ∷ word ∷ []) 6 0x14000 zeros_start duplicate unmapped (omega arith) (steady_none 6 (omega arith))
+keeps_there : FollowsTo loop_input 6 (31 + undisturbed_piece true 0 1 + undisturbed_ends [] + 4 * change_price (undisturbed_piece true 0 1) (undisturbed_ends []) 0x14000) (undisturbed_piece true 0 1) changing
+keeps_there = undisturbed.keeps zeros four 6 0x14000 zeros_start duplicate unmapped (omega arith) (steady_none 6 (omega arith))
 
--- the comparison at the end of the test fires with step 70; without the change of x20 the run ends with step 84
-keeps_fires : (changed_run (start lean_output zeros) (few ∷ nine ∷ word ∷ []) 70).outcome ≡ Fired
+-- the comparison at the end of the test fires with step 70; without the change of x20 the run ends with step 97
+keeps_fires : (changing 70).outcome ≡ Fired
 unfolding changed_run with_changes struck execute jumped computed_value value holds
-keeps_fires = ap (λ s. s.outcome) (changes_go 0x13000 new_code (omega arith) (start lean_output zeros) (few ∷ nine ∷ word ∷ []) 0 70 (start lean_output zeros) (tt, (tt, (omega arith, tt))) refl stand refl)
+keeps_fires = ap (λ s. s.outcome) (changes_go 0x13000 new_code (omega arith) (start lean_output zeros) four 0 70 (start lean_output zeros) (tt, (tt, (tt, (omega arith, tt)))) refl stand refl)
 
-keeps_ends : (changed_run (start lean_output zeros) (few ∷ word ∷ []) 84).outcome ≡ Ended
+keeps_ends : (changed_run (start lean_output zeros) (few ∷ idle ∷ word ∷ []) 97).outcome ≡ Ended
 unfolding changed_run with_changes struck execute jumped computed_value value holds
-keeps_ends = ap (λ s. s.outcome) (changes_go 0x13000 new_code (omega arith) (start lean_output zeros) (few ∷ word ∷ []) 0 84 (start lean_output zeros) (tt, (omega arith, tt)) refl stand refl)
+keeps_ends = ap (λ s. s.outcome) (changes_go 0x13000 new_code (omega arith) (start lean_output zeros) (few ∷ idle ∷ word ∷ []) 0 97 (start lean_output zeros) (tt, (tt, (omega arith, tt))) refl stand refl)
 
 -- ---- a slip of an instruction that writes there: x20 gets 9, not 0
 before_slip : after_output lean_output zeros 16 ≡ state_of lean_output zeros 0x13040 Going
@@ -313,7 +349,7 @@ branch_fires : Fires 2 (misled (ins Beq 0 5 0 (pos 16)) (after_output lean_outpu
 branch_fires =
     lean_faults.branches zeros 91 (ins Beq 0 5 0 (pos 16)) zeros_start (ap (λ s. s.outcome) before_branch) branch_next
     (record { own = record { branch = refl; first = omega arith; second = omega arith; some = omega arith }; checked = branch_checked })
-    (covers_steady loop_input lean_output none 31 182 zeros 94 (steady_none 94 (omega arith)))
+    (covers_steady loop_input lean_output none 45 182 zeros 94 (steady_none 94 (omega arith)))
 
 branch_fired : run (misled (ins Beq 0 5 0 (pos 16)) (after_output lean_output zeros 91)) 2 ≡ state_of lean_output in_turn 0x131bc Fired
 unfolding execute jumped computed_value value holds

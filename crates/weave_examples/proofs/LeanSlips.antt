@@ -2,7 +2,7 @@
 -- on them are at work, with computed runs.
 use Rattle.std.proofs.Common.{◌≡◌, ◌⊎◌, inl, inr, ⊎_elim, ℕ, ◌+◌, true, List, [], ◌∷◌, Some, refl, sym, ap, ◌∙◌, subst, arith}
 use Rattle.std.specs.Prelude.{pos, neg_ℤ}
-use Rattle.std.proofs.lemmas.Bool.{false_from_ne_true}
+use Rattle.std.proofs.lemmas.Bool.{false≢true, false_from_ne_true}
 use Rattle.machine.specs.Below.{gather}
 use Rattle.machine.specs.Cells.{number_among}
 use Rattle.machine.specs.Numbers.{number_bytes}
@@ -12,20 +12,25 @@ use Rattle.machine.specs.declared.outcome.Outcome.TheVariants.{Trapped}
 use Rattle.qed_model.specs.Promise.Kept.{Steady, after_input, after_output, is_trapped}
 use Rattle.weave_core.specs.World.{memory_of, start, zeros, Going, Ended, Fired, Ins, ins, Addi, Known, State, fetched_at, next, run, execute, jumped, computed_value, value, holds, loaded}
 use Rattle.lean.specs.Strayed.{Stopped}
+use Rattle.lean.specs.Slips.{NoWrongEnd, others as other_slip}
 use Rattle.lean.specs.Undisturbed.{EndsRight, FollowsTo, GoesOn, SlipsOther, change_price, gives, skips, slip_steps, slipped_run, turns, undisturbed_ends, undisturbed_piece}
 use Rattle.lean.proofs.Weave.EndsRight.{ends_not_over}
-use Rattle.weave_examples.proofs.LeanExample.{lean_output, new_code, stand, runs, runs_loading, undisturbed, unmapped, with_loads}
+use Rattle.lean.proofs.Weave.Tests as lean
+use Rattle.weave_examples.proofs.LeanExample.{lean_output, lean_words, new_code, stand, runs, runs_loading, undisturbed, unmapped, with_loads}
+use Rattle.weave_examples.proofs.KnownFiles.{loop}
+use Rattle.weave_examples.proofs.LeanBlocks.{options}
+use Rattle.weave_examples.proofs.LoopExample.{loop_blocks}
 use Rattle.weave_examples.proofs.LoopKept.{input_end, loop_input, none, steady_none}
 use Rattle.weave_examples.proofs.ListedRuns.{step-known, found, instruction_at, state_of, zeros_start}
 
 -- ---- the premises
--- the run without a slip ends with step 127, so it is never over
-ends : (after_output lean_output zeros 127).outcome ≡ Ended
+-- the run without a slip ends with step 140, so it is never over
+ends : (after_output lean_output zeros 140).outcome ≡ Ended
 unfolding execute jumped computed_value value holds loaded number_among gather number_bytes
-ends = ap (λ s. s.outcome) (with_loads 127 refl)
+ends = ap (λ s. s.outcome) (with_loads 140 refl)
 
 goes_on : (m : ℕ) → GoesOn lean_output zeros m
-goes_on m k l o = ends_not_over (start lean_output zeros) 127 (m + k) ends (record { steps = m + k; within = omega arith; over = o })
+goes_on m k l o = ends_not_over (start lean_output zeros) 140 (m + k) ends (record { steps = m + k; within = omega arith; over = o })
 
 -- the input is steady for ever
 steady : (k : ℕ) → Steady loop_input none k
@@ -86,20 +91,20 @@ jump_fires : (run fallen 2).outcome ≡ Fired
 unfolding execute jumped computed_value value holds
 jump_fires = ap (λ s. s.outcome) (runs 2 fallen refl refl refl)
 
--- ---- the ECALL, which is next after 126 steps, is skipped: behind it stands no instruction
+-- ---- the ECALL, which is next after 139 steps, is skipped: behind it stands no instruction
 abbrev passed : State
-passed = state_of lean_output (held 0 4096 928 0x1000c 0x1000c 0x3a00000000000000) 0x1325c Going
+passed = state_of lean_output (held 0 4096 928 0x1000c 0x1000c 0x3a00000000000000) 0x132c4 Going
 
-before_end : after_output lean_output zeros 126 ≡ state_of lean_output (held 0 4096 928 0x1000c 0x1000c 0x3a00000000000000) 0x13258 Going
+before_end : after_output lean_output zeros 139 ≡ state_of lean_output (held 0 4096 928 0x1000c 0x1000c 0x3a00000000000000) 0x132c0 Going
 unfolding execute jumped computed_value value holds loaded number_among gather number_bytes
-before_end = with_loads 126 refl
+before_end = with_loads 139 refl
 
-end_slips : Stopped slip_steps passed ⊎ Comes 126 passed
-end_slips = others 126 _ _ (ins Ecall 0 0 0 (pos 0)) passed before_end refl (skips (inr (inr (inr (inr refl)))) refl)
+end_slips : Stopped slip_steps passed ⊎ Comes 139 passed
+end_slips = others 139 _ _ (ins Ecall 0 0 0 (pos 0)) passed before_end refl (skips (inr (inr (inr (inr refl)))) refl)
 
-end_traps : run passed 1 ≡ state_of lean_output (held 0 4096 928 0x1000c 0x1000c 0x3a00000000000000) 0x1325c (Trapped (cause.Word 0) 0x1325c)
+end_traps : run passed 1 ≡ state_of lean_output (held 0 4096 928 0x1000c 0x1000c 0x3a00000000000000) 0x132c4 (Trapped (cause.Word 0) 0x132c4)
 unfolding execute run
-end_traps = step-known passed (ins Illegal 0 0 0 (pos 0)) refl (found (fetched_at (memory_of lean_output.segments) lean_output.ranges) 0x13000 new_code 0x1325c (ins Illegal 0 0 0 (pos 0)) stand refl)
+end_traps = step-known passed (ins Illegal 0 0 0 (pos 0)) refl (found (fetched_at (memory_of lean_output.segments) lean_output.ranges) 0x13000 new_code 0x132c4 (ins Illegal 0 0 0 (pos 0)) stand refl)
 
 -- ---- in the check that the first tick calls, x30 gets 7, not the entry: its comparison with x31 fires
 abbrev misread : State
@@ -146,12 +151,21 @@ tick_misled = turns refl refl
 tick_slips : Stopped slip_steps unchecked ⊎ Comes 36 unchecked
 tick_slips = others 36 _ _ (ins Bge 0 31 0 (pos 12)) unchecked before_tick refl tick_misled
 
-tick_ends : (run unchecked 90).outcome ≡ Ended
+tick_ends : (run unchecked 103).outcome ≡ Ended
 unfolding execute jumped computed_value value holds loaded number_among gather number_bytes
-tick_ends = ap (λ s. s.outcome) (runs_loading 90 unchecked refl refl refl)
+tick_ends = ap (λ s. s.outcome) (runs_loading 103 unchecked refl refl refl)
 
 tick_comes : Comes 36 unchecked
-tick_comes = ⊎_elim (λ o. absurd (ends_not_over unchecked 90 slip_steps tick_ends o)) (λ f. f) tick_slips
+tick_comes = ⊎_elim (λ o. absurd (ends_not_over unchecked 103 slip_steps tick_ends o)) (λ f. f) tick_slips
 
-tick_right : EndsRight loop_input (run unchecked 90)
-tick_right = right 36 _ _ (ins Bge 0 31 0 (pos 12)) unchecked before_tick refl tick_misled 90 tick_ends
+tick_right : EndsRight loop_input (run unchecked 103)
+tick_right = right 36 _ _ (ins Bge 0 31 0 (pos 12)) unchecked before_tick refl tick_misled 103 tick_ends
+
+no_wrong_end : NoWrongEnd loop_input lean_output none [] 0x10000 4096
+no_wrong_end = lean.tests_no_wrong_end loop options 1200 loop_blocks lean_words.0 lean_words.1 refl none (λ e a h. absurd (false≢true h))
+
+-- the test has the sweep, so this holds of slips of each kind
+tick_never_wrong : EndsRight loop_input (run unchecked 103)
+tick_never_wrong =
+    let i = ins Bge 0 31 0 (pos 12) in
+    no_wrong_end.right zeros 36 103 0x14000 i unchecked zeros_start (ap (λ s. s.outcome) before_tick) (here 36 _ _ i unchecked before_tick refl tick_misled) (other_slip (slip 36 _ _ i unchecked before_tick refl tick_misled)) unmapped (omega arith) steady tick_ends

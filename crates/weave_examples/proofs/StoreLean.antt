@@ -51,7 +51,7 @@ sized : AllSized lean_output.segments
 unfolding each
 sized = (omega arith, (leb-true _ _ refl, (omega arith, (leb-true _ _ refl, (omega arith, (omega arith, tt))))))
 
-faults : FaultsFound store_input lean_output none spans (lean_bounds store options 1200) 31 182
+faults : FaultsFound store_input lean_output none spans (lean_bounds store options 1200) 55 182
 faults = lean.tests_faults store options 1200 store_blocks lean_words.0 lean_words.1 none (λ e a h. absurd (false≢true h))
 
 -- the test's store is next after 102 steps, behind the first check
@@ -73,7 +73,7 @@ abbrev wrong_store : State
 wrong_store = let s = after_output lean_output zeros 102 in stored (put s.memory (place sd s) 8 7) (next_pc s) s
 
 -- all premises of the promise are met
-store_settles : SettlesWithin spans 0 2566 (run wrong_store) (λ k. after_output lean_output zeros (103 + k))
+store_settles : SettlesWithin spans 0 2590 (run wrong_store) (λ k. after_output lean_output zeros (103 + k))
 store_settles =
-    faults.stores zeros 102 2566 sd wrong_store zeros_start (ap (λ s. s.outcome) before_store) store_next (record { stores = refl; first = stores_word; last = stores_last }) (stores 7 refl) refl
-    (covers_steady store_input lean_output none 31 182 zeros (103 + 2566) (store_steady (103 + 2566) (omega arith)))
+    faults.stores zeros 102 2590 sd wrong_store zeros_start (ap (λ s. s.outcome) before_store) store_next (record { stores = refl; first = stores_word; last = stores_last }) (stores 7 refl) refl
+    (covers_steady store_input lean_output none 55 182 zeros (103 + 2590) (store_steady (103 + 2590) (omega arith)))

@@ -1,13 +1,14 @@
 -- The trace of the lean form: its boundaries are the calls of the check.
-use Rattle.std.proofs.Common.{◌≡◌, ℕ, suc, ◌+◌, ◌<◌, ◌≤◌, ◌⊎◌, inl, inr, ⊎_elim, Bool, true, List, refl, sym, ap, ◌∙◌, subst, arith, cond}
+use Rattle.std.proofs.Common.{◌≡◌, ℕ, suc, ◌+◌, ◌-◌, ◌<◌, ◌≤◌, ◌⊎◌, inl, inr, ⊎_elim, Bool, true, List, refl, sym, ap, ◌∙◌, subst, arith, cond}
 use Rattle.tests.specs.Admission.DataRanges.{word_count, word_address}
+use Rattle.rv_isa.specs.declared.class.Class.TheVariants as class
+use Rattle.qed_model.specs.Promise.Faults.{WritesOriginal}
 use Rattle.qed_model.specs.Promise.Kept.{after_input, after_output, Steady}
 use Rattle.qed_model.specs.Weave.LeanBounds.{entry_steps, call_steps}
 use Rattle.qed_model.specs.Weave.Sequences.{Reads}
 use Rattle.qed_model.specs.Weave.Lean.{first_word, begin}
 use Rattle.qed_model.specs.Weave.LeanCode.{Lean}
-use Rattle.machine.proofs.Lemmas.{run-more, walk_on}
-use Rattle.weave_core.specs.World.{World, Quiet, IsCursor, Going, Ended, Program, start, zeros, AreStartRegs, State, run}
+use Rattle.weave_core.specs.World.{World, Quiet, IsCursor, Going, Ended, Program, start, zeros, AreStartRegs, State, run, Ins, Known, class_of}
 use Rattle.weave_core.specs.Describes.{Describes}
 use Rattle.weave_core.specs.Blocks.{IsEntryOf}
 use Rattle.weave_core.specs.Rows.{Sourced}
@@ -18,13 +19,20 @@ use Rattle.weave_core.specs.WeaveLaws.{EntriesAt, Swept, Trail, Feeds}
 use Rattle.weave_core.proofs.Lemmas.{first_sourced, words_within, trail_first, trail_on, feeds_first, feeds_less, feeds_on}
 use Rattle.lockstep.proofs.Lemmas.{AtNumber, placed, round_of, round_on, Sizes, NextSteps, PieceSteps, EndsSoon, Trace, SweptEnd, ToEnd, LastBoundary, to_end, Numbered, next_numbered, visits_in, swept_is}
 use Rattle.lean.specs.Woven.{lean_weave_of, LeanIn, check_steps, swept_steps, owed}
+use Rattle.lean.proofs.Weave.Carry.{run-more, walk_on}
 use Rattle.lean.proofs.Weave.Begin.{begin_law, first_is}
 use Rattle.lean.proofs.Weave.Cells.{Counts, Called, Finished, Begins, called, ahead, to_check}
 use Rattle.lean.proofs.Weave.Check.{Back}
 use Rattle.lean.proofs.Weave.Costs.{entry_some}
-use Rattle.lean.proofs.Weave.End.{Sweeps, swept_on}
+use Rattle.lean.proofs.Weave.End.{Sweeps, SweptAfter, swept_on}
 use Rattle.lean.proofs.Weave.Left.{lean_rows}
 use Rattle.lean.proofs.Weave.Rows.{AtCheck, checks}
+use Rattle.lean.proofs.Weave.SweepWords.{BeforeSweep, sweep_alone}
+
+-- the sweep before the end, from which on no instruction of the test's own is executed
+pub record SweptAlone (w : World) (g : Program) (regs : List ℕ) (sweep_steps e : ℕ) : Type 0 where
+  pub swept : SweptEnd w g regs sweep_steps e
+  pub alone : (m : ℕ) (j : Ins) → swept.start ≤ m → m < e → w.code (after_output g regs m).pc ≡ Known j → (WritesOriginal j ⊎ (class_of j.kind ≡ class.Store)) → ⊥
 
 module _ (f g : Program) (w : World) (l : Lean) (leader : ℕ → Bool) (x : LeanIn w l leader) (of : Describes f g w) (entries : EntriesAt w (lean_weave_of w l leader) leader) (counts : Counts w l leader entries) (leads : leader f.entry ≡ true) (ticked : l.ticks f.entry ≡ true) (begins : Reads w.form.far w.code w.entry g.entry (begin w.distance f.entry)) where
   -- from a call of the check to the next, to behind its comparison with four steps left, and the run before the end
@@ -190,24 +198,57 @@ module _ (f g : Program) (w : World) (l : Lean) (leader : ℕ → Bool) (x : Lea
         }
 
     -- ---- the end of a test with the sweep
+    -- the last boundary, with what follows it
+    abbrev Last : ℕ → Type 0
+    Last e = LastBoundary (λ q n. Sweeps w (after_output g regs q) n) e
+
+    last_of : (e : ℕ) → ((h : ℕ) → Steady f w.reached h) → (after_output g regs e).outcome ≡ Ended → ((k : ℕ) → k < e → (after_output g regs k).outcome ≡ Going) → Last e
+    last_of e steady end before =
+        let first = first_call in
+        to_end (start g regs) e end before (Numbered Bound) (λ q n. Sweeps w (after_output g regs q) n)
+        (λ p b. b.bound.here.over.going)
+        (λ p b.
+        ⊎_elim
+        (λ c. inl (next_numbered w.code (start g regs) sizes nth Bound p b.index (next_at p b.index b.bound c)))
+        (λ d. inr (closing_at p b.index b.bound d))
+        (onward_at p b.index b.bound (p + (check_steps w + (l.every + 1))) (omega arith) (record { more = λ n m t l. steady (suc n) })))
+        e first.steps (omega arith) (record { index = first.index; bound = first.bound })
+
+    -- the sweep behind it
+    module _ (e : ℕ) (sw : w.form.sweep ≡ true) (before : (k : ℕ) → k < e → (after_output g regs k).outcome ≡ Going) (r : Last e) where
+      closing : SweptAfter w (after_output g regs r.from) r.steps
+      closing = r.last sw
+
+      to_sweep : after_output g regs (r.from + closing.from) ≡ run (after_output g regs r.from) closing.from
+      to_sweep = run-more (start g regs) r.from closing.from
+
+      sum_is : r.from + closing.from + closing.rest ≡ e
+      sum_is = omega (arith, closing.sum, r.is)
+
+      swept_of : SweptEnd w g regs (sweep_cost w.form.spans) e
+      swept_of = swept_is g w regs (sweep_cost w.form.spans) (r.from + closing.from) closing.rest e (subst (λ z. Swept w (sweep_cost w.form.spans) z closing.rest) (sym to_sweep) closing.swept) sum_is before
+
+      alone_of : SweptAlone w g regs (sweep_cost w.form.spans) e
+      alone_of = record { swept = swept_of; alone = alone } where
+        alone : (m : ℕ) (j : Ins) → swept_of.start ≤ m → m < e → w.code (after_output g regs m).pc ≡ Known j → (WritesOriginal j ⊎ (class_of j.kind ≡ class.Store)) → ⊥
+        alone m j late high known =
+            let low : r.from + closing.from ≤ m = omega (arith, late, swept_of.exact, closing.swept.exact, sum_is) in
+            let p = r.from + closing.from in
+            let k = m - (r.from + closing.from) in
+            let sum : r.from + closing.from + (m - (r.from + closing.from)) ≡ m = omega (arith, low) in
+            let at : after_output g regs m ≡ run (after_output g regs p) k = ap (run (start g regs)) (sym sum) ∙ run-more (start g regs) p k in
+            sweep_alone w (after_output g regs p) (subst (BeforeSweep w) (sym to_sweep) closing.before) k
+            (λ i h. ap (λ s. s.outcome) (sym (run-more (start g regs) p i)) ∙ before (p + i) (omega (arith, h, high, low)))
+            j (ap (λ s. w.code s.pc) (sym at) ∙ known)
+
+    -- the end of each test with the sweep
     pub swept_end :
         (e : ℕ) → ((h : ℕ) → Steady f w.reached h) → w.form.sweep ≡ true → (after_output g regs e).outcome ≡ Ended → ((k : ℕ) → k < e → (after_output g regs k).outcome ≡ Going)
         → SweptEnd w g regs (sweep_cost w.form.spans) e
-    swept_end e steady sw end before = swept reached where
-      reached : LastBoundary (λ q n. Sweeps w (after_output g regs q) n) e
-      reached =
-          let first = first_call in
-          to_end (start g regs) e end before (Numbered Bound) (λ q n. Sweeps w (after_output g regs q) n)
-          (λ p b. b.bound.here.over.going)
-          (λ p b.
-          ⊎_elim
-          (λ c. inl (next_numbered w.code (start g regs) sizes nth Bound p b.index (next_at p b.index b.bound c)))
-          (λ d. inr (closing_at p b.index b.bound d))
-          (onward_at p b.index b.bound (p + (check_steps w + (l.every + 1))) (omega arith) (record { more = λ n m t l. steady (suc n) })))
-          e first.steps (omega arith) (record { index = first.index; bound = first.bound })
+    swept_end e steady sw end before = swept_of e sw before (last_of e steady end before)
 
-      swept : LastBoundary (λ q n. Sweeps w (after_output g regs q) n) e → SweptEnd w g regs (sweep_cost w.form.spans) e
-      swept r =
-          let y = r.last sw in
-          let there : after_output g regs (r.from + y.from) ≡ run (after_output g regs r.from) y.from = run-more (start g regs) r.from y.from in
-          swept_is g w regs (sweep_cost w.form.spans) (r.from + y.from) y.rest e (subst (λ z. Swept w (sweep_cost w.form.spans) z y.rest) (sym there) y.swept) (omega (arith, y.sum, r.is)) before
+    -- with what no step of it does
+    pub swept_alone :
+        (e : ℕ) → ((h : ℕ) → Steady f w.reached h) → w.form.sweep ≡ true → (after_output g regs e).outcome ≡ Ended → ((k : ℕ) → k < e → (after_output g regs k).outcome ≡ Going)
+        → SweptAlone w g regs (sweep_cost w.form.spans) e
+    swept_alone e steady sw end before = alone_of e sw before (last_of e steady end before)

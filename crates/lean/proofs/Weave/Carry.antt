@@ -20,7 +20,7 @@ pub use Rattle.qed_model.proofs.Lemmas.{all_fine, fine_part, allows-flags, byte_
 pub use Rattle.machine.proofs.Lemmas.{constant_value, same_fetch, flags-put, run-last, step-class, Over, known_at, run-more, over_moved, difference, run-none, each_kind, Walk, byte_at-put_outside, constant_walk, get-put_outside, same_number, set_reg-pos, step-compute, step-load, step-store, walk_none, walk_on, wrapped-add}
 use Rattle.weave_core.specs.Blocks.{FitsPiece}
 use Rattle.weave_core.specs.World.{World, Item, Mark, Plain, Constant, Go, wrapped, holds, State, reg, moved, jumped, imm, next_pc, execute, Known, step, run, target, Kind, Class, class_of}
-pub use Rattle.weave_core.proofs.Lemmas.{reads_front, step-jump, steady_none, auipc_is, IsBodyWord, body_computes, body_loads, body_stores, body_fences, body_word, operates_class, jumped_to, pc_four, Standing, standing_step, one_run, WeaveIn, go_walk, go_most, branch_passed, step-break, sets_compute, writes, writes_out, writes_long, standing_run, flagged_moved, standing_at, sized_step, sets_equal, sign_walk, AllTemps, Branches, Leaps, Passes, Sets, Tabled, add_result, addi_value, aim, all_small, andi_value, auipc_step, branch_step, branch_taken, branch_to, compare_stands, entry_leap, equal_holds, find, first_sourced, found, guard_pass, guards_pass, halved_gone, halved_moved, halved_original, halved_pair, halved_regs, halved_views, halved_writes, has_front, has_rest, jump_step, leap_step, led_more, led_none, linked, linked_out, links_as, links_sets, load_granted, mapped_in, met_ended, met_going, met_same, no_code, not_trapped_le, over_stored, own_pair, pair_value, pass_none, raised_place, result_alike, run-ended, sets_const, sets_on, source_run, spared, steady_le, steady_rest, step-end, step-fence, step-illegal, store_granted, sub_result, table_load, table_word, tabled, visit_later, visit_more, visit_row, width_le, word, word_low, words_within}
+pub use Rattle.weave_core.proofs.Lemmas.{known_same, reads_front, step-jump, steady_none, auipc_is, IsBodyWord, body_computes, body_loads, body_stores, body_fences, body_word, operates_class, jumped_to, pc_four, Standing, standing_step, one_run, WeaveIn, go_walk, go_most, branch_passed, step-break, sets_compute, writes, writes_out, writes_long, standing_run, flagged_moved, standing_at, sized_step, sets_equal, sign_walk, AllTemps, Branches, Leaps, Passes, Sets, Tabled, add_result, addi_value, aim, all_small, andi_value, auipc_step, branch_step, branch_taken, branch_to, compare_stands, entry_leap, equal_holds, find, first_sourced, found, guard_pass, guards_pass, halved_gone, halved_moved, halved_original, halved_pair, halved_regs, halved_views, halved_writes, has_front, has_rest, jump_step, leap_step, led_more, led_none, linked, linked_out, links_as, links_sets, load_granted, mapped_in, met_ended, met_going, met_same, no_code, not_trapped_le, over_stored, own_pair, pair_value, pass_none, raised_place, result_alike, run-ended, sets_const, sets_on, source_run, spared, steady_le, steady_rest, step-end, step-fence, step-illegal, store_granted, sub_result, table_load, table_word, tabled, visit_later, visit_more, visit_row, width_le, word, word_low, words_within}
 pub use Rattle.weave_core.proofs.Words.{const_signed}
 pub use Rattle.lockstep.proofs.Lemmas.{word_below}
 use Rattle.lean.specs.Strayed.{IsOver}

@@ -7,7 +7,6 @@ use Rattle.tests.specs.Admission.DataRanges.{word_count}
 use Rattle.qed_model.specs.Weave.Bounds.{end_bound}
 use Rattle.qed_model.specs.Weave.Sequences.{check_sign, compare, sweep, before_end, ORIGINALS, SIGNATURE}
 use Rattle.qed_model.specs.Weave.Lean.{check_distance, leave_as, is_break, cost}
-use Rattle.machine.proofs.Lemmas.{over_moved, known_at, run-more, Walk, walk_on}
 use Rattle.weave_core.specs.World.{World, Quiet, Twice, Item, Plain, Ended, State, reg, moved, stopped, Known, step, run, Ins, class_of}
 use Rattle.weave_core.specs.Kinds.{originals}
 use Rattle.weave_core.specs.Rows.{At, Sourced}
@@ -15,8 +14,10 @@ use Rattle.weave_core.specs.Leaving.{swept_end, sweep_cost}
 use Rattle.weave_core.specs.WeaveLaws.{GoesTo, BothEnded, Swept}
 use Rattle.weave_core.proofs.Lemmas.{own_pair, guards_pass, quiet_sweep, step-end, end_walk, writes, halved_input, halved_writes, none_run, all_small}
 use Rattle.lean.specs.Woven.{swept_steps}
+use Rattle.lean.proofs.Weave.Carry.{over_moved, known_at, run-more, Walk, walk_on}
 use Rattle.lean.proofs.Weave.Chain.{read_back, all_temps, no_break}
 use Rattle.lean.proofs.Weave.Sign.{distance_set, passes}
+use Rattle.lean.proofs.Weave.SweepWords.{BeforeSweep}
 
 -- states that ended have the values in both halves
 ended_halved : (w : World) (u s : State) → Twice w u s s → Twice w (stopped Ended u) (stopped Ended s) (stopped Ended s)
@@ -31,17 +32,22 @@ pub record SweptAfter (w : World) (u : State) (n : ℕ) : Type 0 where
   pub rest : ℕ
   pub sum : from + rest ≡ n
   pub swept : Swept w (sweep_cost w.form.spans) (run u from) rest
+  pub before : BeforeSweep w (run u from)
 
 -- where there is a sweep
 abbrev pub Sweeps : World → State → ℕ → Type 0
 Sweeps w u n = w.form.sweep ≡ true → SweptAfter w u n
+
+-- at its begin
+swept_now : (w : World) (u : State) (n : ℕ) → Swept w (sweep_cost w.form.spans) u n → BeforeSweep w u → SweptAfter w u n
+swept_now w u n x before = record { from = 0; rest = n; sum = omega arith; swept = subst (λ z. Swept w (sweep_cost w.form.spans) z n) (sym (none_run u)) x; before = subst (BeforeSweep w) (sym (none_run u)) before }
 
 -- behind a walk
 pub swept_on : (w : World) (u y : State) (m n : ℕ) → Walk (Quiet w) u m y → Sweeps w y n → Sweeps w u (m + n)
 swept_on w u y m n a s h =
     let x = s h in
     let same : run u (m + x.from) ≡ run y x.from = run-more u m x.from ∙ ap (λ z. run z x.from) a.ends in
-    record { from = m + x.from; rest = x.rest; sum = omega (arith, x.sum); swept = subst (λ z. Swept w (sweep_cost w.form.spans) z x.rest) (sym same) x.swept }
+    record { from = m + x.from; rest = x.rest; sum = omega (arith, x.sum); swept = subst (λ z. Swept w (sweep_cost w.form.spans) z x.rest) (sym same) x.swept; before = subst (BeforeSweep w) (sym same) x.before }
 
 -- from behind the signature to the end
 end_rest :
@@ -69,7 +75,7 @@ end_rest w u s i at so h c = by w.form.sweep refl at where
         at_least = omega (arith, l.swept.exact);
         within = omega (arith, high);
         walk = x.walk;
-        is = (record { ended = l.ended; halved = subst (λ y. Twice w x.to.now y y) (sym e) has; input = input }, λ sw. record { from = 0; rest = x.steps; sum = omega arith; swept = subst (λ z. Swept w (sweep_cost w.form.spans) z x.steps) (sym (none_run u)) l.swept });
+        is = (record { ended = l.ended; halved = subst (λ y. Twice w x.to.now y y) (sym e) has; input = input }, λ sw. swept_now w u x.steps l.swept (record { over = a.over; end = i; ends = c; reads = a.reads }));
       })
       x.ends
   by false is a = record {

@@ -12,7 +12,7 @@ use Rattle.lean.proofs.Weave.DuplicateSlips.{slipped_behind}
 use Rattle.lean.proofs.Weave.Trail.{over_ends}
 
 -- a run that has ended stays
-ended_later : (v : State) (j i : ℕ) → j ≤ i → (run v j).outcome ≡ Ended → run v i ≡ run v j
+pub ended_later : (v : State) (j i : ℕ) → j ≤ i → (run v j).outcome ≡ Ended → run v i ≡ run v j
 ended_later v j i h e = let k : i ≡ j + (i - j) = omega (arith, h) in ap (run v) k ∙ run-more v j (i - j) ∙ run-ended (i - j) (run v j) e
 
 -- so it is not over

@@ -1,10 +1,12 @@
 -- A plan of the lean form keeps the values, its code is calm, changes are caught, and the sweep leaves none silent.
-use Rattle.std.proofs.Common.{◌≡◌, ℕ, zero, suc, ◌+◌, ◌*◌, ◌^◌, ◌<◌, ◌≤◌, ⊎_elim, Bool, true, false, List, [], ◌++◌, length, Some, refl, sym, ap, ◌∙◌, subst, arith, append_assoc, length-append}
+use Rattle.std.proofs.Common.{◌≡◌, ℕ, zero, suc, ◌+◌, ◌*◌, ◌^◌, ◌<◌, ◌≤◌, ◌⊎◌, ⊎_elim, Bool, true, false, List, [], ◌++◌, length, Some, refl, sym, ap, ◌∙◌, subst, arith, append_assoc, length-append}
+use Rattle.std.proofs.lemmas.Bool.{cases_lt}
+use Rattle.rv_isa.specs.declared.class.Class.TheVariants as class
 use Rattle.qed_model.specs.declared.bounds.Bounds.{Bounds}
 use Rattle.tests.specs.Admission.DataRanges.{word_count}
 use Rattle.machine.specs.Members.{Among}
 use Rattle.qed_model.specs.Promise.InStep.{CaughtInStep, CleanInStep}
-use Rattle.qed_model.specs.Promise.Kept.{Kept}
+use Rattle.qed_model.specs.Promise.Kept.{Kept, after_output, Steady}
 use Rattle.qed_model.specs.Promise.OwnSteps.{KeptInStep}
 use Rattle.qed_model.specs.Weave.Blocks.{begins_at}
 use Rattle.qed_model.specs.Weave.Code.{Sequences, entries_of}
@@ -14,7 +16,7 @@ use Rattle.qed_model.specs.Weave.Sequences.{Reads, Block, stub}
 use Rattle.qed_model.specs.Weave.Lean.{check, begin}
 use Rattle.qed_model.specs.Weave.LeanCode.{Lean, worded}
 use Rattle.qed_model.specs.Weave.LeanBounds.{cost_of, entry_steps, call_steps, period, word_bound}
-use Rattle.weave_core.specs.World.{World, Item, Program, Known, HasAt, Ins}
+use Rattle.weave_core.specs.World.{World, Item, Program, Going, Ended, Known, HasAt, Ins, AreStartRegs, next, class_of}
 use Rattle.weave_core.specs.KindItems.{LockItems, AllLand, OpenEntries, AllBlocks}
 use Rattle.weave_core.specs.Kinds.{opens}
 use Rattle.weave_core.specs.Lock.{Opens}
@@ -22,10 +24,11 @@ use Rattle.weave_core.specs.Leaving.{sweep_cost}
 use Rattle.weave_core.specs.Weave.{stage_steps, most_before_start}
 use Rattle.weave_core.specs.WeaveLaws.{EntriesAt}
 use Rattle.weave_core.proofs.Lemmas.{reads_front, instructions_then, reads_words, stub_opens, items_then, all_land_append, has_rest, opens_behind, length-instructions, WeaveIn, kept, in_step, feeds_at, quiet_before}
-use Rattle.lockstep.proofs.Lemmas.{round_some, CalmCode, cleaned, faults_found, WordAt, stub_words, reads_rest, word_of, stub_open, Times, BoundsBy, CaughtAll, caught_of, settles_all, Sizes, all_blocks}
-use Rattle.qed_model.specs.Promise.Faults.{FaultsFound}
+use Rattle.lockstep.proofs.Lemmas.{round_some, CalmCode, loaded_at, CleanAll, clean_of, cleaned, faults_clean, faults_found, places_found, WordAt, stub_words, reads_rest, word_of, stub_open, Times, BoundsBy, CaughtAll, caught_of, settles_all, Sizes, all_blocks}
+use Rattle.qed_model.specs.Promise.Faults.{FaultsFound, WritesOriginal}
+use Rattle.lockstep.specs.WrongOnce.{PlacesFound, FaultsClean}
 use Rattle.lean.specs.Woven.{LeanPlan, LeanKept, LeanKeptInStep, LeanCaught, LeanClean, IsLeanBoundsOf, lean_weave_of, check_steps, swept_steps, lean_start_of, lean_piece_of}
-use Rattle.lean.proofs.Weave.Beats.{sizes, traced, Bound, swept_end}
+use Rattle.lean.proofs.Weave.Beats.{sizes, traced, Bound, swept_end, swept_alone}
 use Rattle.lean.proofs.Weave.Begin.{lean_starts}
 use Rattle.lean.proofs.Weave.Cells.{Counts}
 use Rattle.lean.proofs.Weave.Lands.{entries_locks, blocks_open, open_of, entries_land}
@@ -213,21 +216,46 @@ module _ (f g : Program) (w : World) (l : Lean) (blocks : List Block) (p : LeanP
     pub catches : CaughtInStep f g w.reached w.form.spans bounds before per
     catches = caught_of f g w before per bounds calm catches_all
 
-    -- wrong results are caught, as changes
-    pub finds : FaultsFound f g w.reached w.form.spans bounds before per
-    finds = faults_found f g w before per bounds calm (omega (arith, are.register)) (λ b e. wide (word_count w.form.spans) b (sym are.word ∙ e)) catches_all where
-      wide : (n b : ℕ) → word_bound l.land n w.form.round (swept_steps w) (period l.land (check_steps w) l.every) ≡ Some b → 2 ≤ b
-      wide zero b e = absurd (cc)
-      wide (suc n) b e =
+    -- the bound of a word has two steps
+    wide : (b : ℕ) → bounds.word ≡ Some b → 2 ≤ b
+    wide b e = by (word_count w.form.spans) (sym are.word ∙ e) where
+      by : (n : ℕ) → word_bound l.land n w.form.round (swept_steps w) (period l.land (check_steps w) l.every) ≡ Some b → 2 ≤ b
+      by zero e = absurd (cc)
+      by (suc n) e =
           let is : 53 + entry_steps l.land + call_steps l.land + swept_steps w + (piece_count w.form.round (suc n) + 1) * period l.land (check_steps w) l.every ≡ b = cc in
           omega (arith, is)
 
+    -- wrong results are caught, as changes
+    pub finds : FaultsFound f g w.reached w.form.spans bounds before per
+    finds = faults_found f g w before per calm bounds (omega (arith, are.register)) wide catches_all
+
+    pub finds_places : PlacesFound f g w.reached w.form.spans bounds before per
+    finds_places = places_found f g w before per calm bounds wide catches_all
+
   -- ---- with the sweep none ends silently
-  pub cleans : w.form.sweep ≡ true → CleanInStep f g w.reached w.form.spans (sweep_cost w.form.spans + 14) before per
-  cleans sweeps = record {
+  cleans_all : w.form.sweep ≡ true → CleanAll f g w before per (sweep_cost w.form.spans + 14)
+  cleans_all sweeps = record {
     settles = λ regs cs e start ordered free early ended first covers.
         cleaned f g w before per calm (sweep_cost w.form.spans) regs start cs e ordered free early ended first covers (λ always going. swept_end f g w l leader p.sound p.world entries counts p.begins p.ticked begins regs start e always sweeps ended going);
   }
+
+  pub cleans : w.form.sweep ≡ true → CleanInStep f g w.reached w.form.spans (sweep_cost w.form.spans + 14) before per
+  cleans sweeps = clean_of f g w before per (sweep_cost w.form.spans + 14) calm (cleans_all sweeps)
+
+  pub cleans_faults : w.form.sweep ≡ true → FaultsClean f g w.reached w.form.spans (sweep_cost w.form.spans + 14) before per
+  cleans_faults sweeps = faults_clean f g w before per calm (sweep_cost w.form.spans + 14) (omega arith) (cleans_all sweeps)
+
+  -- no instruction of the test stands in the sweep or behind it
+  early :
+      w.form.sweep ≡ true → (regs : List ℕ) (m e : ℕ) (i : Ins) → AreStartRegs regs → next (after_output g regs m) ≡ Known i → WritesOriginal i ⊎ (class_of i.kind ≡ class.Store) → ((k : ℕ) → Steady f w.reached k)
+      → m < e → (after_output g regs e).outcome ≡ Ended → ((k : ℕ) → k < e → (after_output g regs k).outcome ≡ Going) → m + 1 + (sweep_cost w.form.spans + 14) ≤ e
+  early sweeps regs m e i are known own steady less ended going =
+      let x = swept_alone f g w l leader p.sound p.world entries counts p.begins p.ticked begins regs are e steady sweeps ended going in
+      let exact = x.swept.exact in
+      ⊎_elim
+      (λ lt. omega (arith, lt, exact))
+      (λ ge. absurd (x.alone m i ge less (sym ((loaded_at f g w before per calm regs are m).code (after_output g regs m).pc) ∙ known) own))
+      (cases_lt m x.swept.start)
 
 -- ---- the laws
 -- the bound on the steps for each step of the input
@@ -246,6 +274,20 @@ lean_caught f g w l blocks bounds p round are = subst (λ n. CaughtInStep f g w.
 pub lean_faults :
     (f g : Program) (w : World) (l : Lean) (blocks : List Block) (bounds : Bounds) → LeanPlan f g w l blocks → 1 ≤ w.form.round → IsLeanBoundsOf w l bounds → FaultsFound f g w.reached w.form.spans bounds (lean_start_of w) (lean_piece_of w l)
 lean_faults f g w l blocks bounds p round are = subst (λ n. FaultsFound f g w.reached w.form.spans bounds (lean_start_of w) n) (stage_is l (check_steps w) (cost_of l.diverse * l.inst_max)) (finds f g w l blocks p round bounds are)
+
+pub lean_places :
+    (f g : Program) (w : World) (l : Lean) (blocks : List Block) (bounds : Bounds) → LeanPlan f g w l blocks → 1 ≤ w.form.round → IsLeanBoundsOf w l bounds → PlacesFound f g w.reached w.form.spans bounds (lean_start_of w) (lean_piece_of w l)
+lean_places f g w l blocks bounds p round are = subst (λ n. PlacesFound f g w.reached w.form.spans bounds (lean_start_of w) n) (stage_is l (check_steps w) (cost_of l.diverse * l.inst_max)) (finds_places f g w l blocks p round bounds are)
+
+pub lean_faults_clean :
+    (f g : Program) (w : World) (l : Lean) (blocks : List Block) → LeanPlan f g w l blocks → w.form.sweep ≡ true → FaultsClean f g w.reached w.form.spans (sweep_cost w.form.spans + 14) (lean_start_of w) (lean_piece_of w l)
+lean_faults_clean f g w l blocks p sweeps = subst (λ n. FaultsClean f g w.reached w.form.spans (sweep_cost w.form.spans + 14) (lean_start_of w) n) (stage_is l (check_steps w) (cost_of l.diverse * l.inst_max)) (cleans_faults f g w l blocks p sweeps)
+
+pub lean_early :
+    (f g : Program) (w : World) (l : Lean) (blocks : List Block) → LeanPlan f g w l blocks → w.form.sweep ≡ true → (regs : List ℕ) (m e : ℕ) (i : Ins) → AreStartRegs regs
+    → next (after_output g regs m) ≡ Known i → WritesOriginal i ⊎ (class_of i.kind ≡ class.Store) → ((k : ℕ) → Steady f w.reached k)
+    → m < e → (after_output g regs e).outcome ≡ Ended → ((k : ℕ) → k < e → (after_output g regs k).outcome ≡ Going) → m + 1 + (sweep_cost w.form.spans + 14) ≤ e
+lean_early f g w l blocks p sweeps = early f g w l blocks p sweeps
 
 pub lean_clean : LeanClean
 lean_clean f g w l blocks p sweeps = subst (λ n. CleanInStep f g w.reached w.form.spans (sweep_cost w.form.spans + 14) (lean_start_of w) n) (stage_is l (check_steps w) (cost_of l.diverse * l.inst_max)) (cleans f g w l blocks p sweeps)

@@ -14,14 +14,15 @@ use Rattle.qed_model.specs.Promise.InStep.{SettlesWithin}
 use Rattle.qed_model.specs.Promise.OwnSteps.{Covers, KeptInStep}
 use Rattle.qed_model.specs.Weave.Sequences.{Block}
 use Rattle.weave_core.specs.World.{Going, Ended, Known, next, next_pc, start, place, width_of, number, loaded, result, execute, State, set_reg, moved, step, run, class_of}
+use Rattle.lockstep.specs.WrongOnce.{WrongOnce, results, stores, elsewhere, PlacesFound}
 use Rattle.lean.specs.Strayed.{IsOver}
-use Rattle.lean.specs.Slips.{WritesNothing, Slips, results, originals, duplicates, others, idles, bound_as, Settles, NoSilentSlip, stops as has_stopped, settles as has_settled, follows as has_followed}
+use Rattle.lean.specs.Slips.{WritesNothing, Slips, own, duplicates, others, idles, bound_as, Settles, NoSilentSlip, stops as has_stopped, settles as has_settled, follows as has_followed}
 use Rattle.lean.specs.Undisturbed.{Undisturbed, GoesOn, slipped_run, FollowsTo, change_price}
 use Rattle.lean.proofs.Weave.Carry.{run-last, run-more, run-none, step-class, step-compute, step-load, load_granted}
 use Rattle.lean.proofs.Weave.DuplicateSlips.{slip_goes, slipped_before, slipped_behind}
 
 -- ---- a skipped instruction whose result goes to x0
-idle_same : (i : Ins) (u : State) → u.outcome ≡ Going → next u ≡ Known i → NotTrapped (step u) → WritesNothing i → moved u.regs (next_pc u) u ≡ step u
+pub idle_same : (i : Ins) (u : State) → u.outcome ≡ Going → next u ≡ Known i → NotTrapped (step u) → WritesNothing i → moved u.regs (next_pc u) u ≡ step u
 unfolding execute
 idle_same i u going known calm h =
     ⊎_elim
@@ -34,14 +35,14 @@ idle_same i u going known calm h =
     h
 
 -- a run without changes
-unchanged : (s : State) (j : ℕ) → changed_run s [] j ≡ run s j
+pub unchanged : (s : State) (j : ℕ) → changed_run s [] j ≡ run s j
 unfolding changed_run with_changes
 unchanged s zero = sym (run-none s)
 unchanged s (suc j) = let e : suc j ≡ j + 1 = omega arith in ap step (unchanged s j) ∙ sym (ap (run s) e ∙ run-last s j)
 
 module _
     (f g : Program) (reached : ℕ → Bool) (spans : List (ℕ × ℕ)) (base distance : ℕ) (entry : ℕ → ℕ) (blocks : List Block) (bounds : Bounds) (bound ends : ℕ)
-    (kept : KeptInStep f g reached distance bounds.start bounds.piece) (faults : FaultsFound f g reached spans bounds bounds.start bounds.piece) (calm : Undisturbed f g reached base distance entry blocks bound ends)
+    (kept : KeptInStep f g reached distance bounds.start bounds.piece) (faults : FaultsFound f g reached spans bounds bounds.start bounds.piece) (places : PlacesFound f g reached spans bounds bounds.start bounds.piece) (calm : Undisturbed f g reached base distance entry blocks bound ends)
     (big : 8 ≤ bounds.register) (wide : (b : ℕ) → bounds.word ≡ Some b → 8 ≤ b) where
   -- the bound is at least that of looking ahead
   enough : (c : Class) (b : ℕ) → bound_as c bounds ≡ Some b → 8 ≤ b
@@ -115,11 +116,16 @@ module _
               slipped_behind g regs m v j (omega (arith, ge)) ∙ ap (λ z. run z (j - (m + 1))) (sym same ∙ next_is) ∙ sym (run-more (start g regs) (m + 1) (j - (m + 1))) ∙ ap (run (start g regs)) e)
               (cases_lt j (m + 1))
 
-    by_kind : Slips g spans base distance i u v → Settles f g spans regs m n b first bound v
-    by_kind (results wr h) =
+    -- one of the test's own
+    own_settles : WrongOnce spans i u v → SettlesWithin spans 0 b (run v) (λ k. after_output g regs (m + 1 + k))
+    own_settles (results wr h) =
         let e = register_is wr.writes in
-        has_settled (subst (λ z. SettlesWithin spans 0 z (run v) (λ k. after_output g regs (m + 1 + k))) e (faults.results regs m i v are going known wr h (subst (λ z. Covers f g reached bounds.start bounds.piece regs (m + 1 + z)) (sym e) covers)))
-    by_kind (originals so h) = has_settled (faults.stores regs m b i v are going known so h (sym (ap (λ c. bound_as c bounds) so.stores) ∙ is) covers)
+        subst (λ z. SettlesWithin spans 0 z (run v) (λ k. after_output g regs (m + 1 + k))) e (faults.results regs m i v are going known wr h (subst (λ z. Covers f g reached bounds.start bounds.piece regs (m + 1 + z)) (sym e) covers))
+    own_settles (stores so h) = faults.stores regs m b i v are going known so h (sym (ap (λ c. bound_as c bounds) so.stores) ∙ is) covers
+    own_settles (elsewhere h) = places.found regs m b i v are going known h (sym (ap (λ c. bound_as c bounds) h.store.stores) ∙ is) covers
+
+    by_kind : Slips g spans base distance i u v → Settles f g spans regs m n b first bound v
+    by_kind (own h) = has_settled (own_settles h)
     by_kind (duplicates d) =
         has_followed (calm.slips regs m n top i v are going known (ap (λ z. z.outcome) (sym next_is) ∙ slip_goes g base distance i u v going known calm_next d) d none low st)
     by_kind (others o) = ⊎_elim (λ x. has_stopped x) (λ x. has_followed x) (calm.others regs m n top i v are going known o goes_on none low st)

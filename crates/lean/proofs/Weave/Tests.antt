@@ -27,7 +27,7 @@ use Rattle.weave_core.specs.Blocks.{IsEntryOf, TableAt}
 use Rattle.weave_core.specs.WeavePromise.{AllBlocksOf, OnlyCode}
 use Rattle.weave_core.proofs.Lemmas.{marked, rows_inputs, reads_front, place_low, AreItems, loaded_ranges, Ascend, code_distinct, rows_are, entry_or_stub, length-instructions, mark_behind, rows_behind, down, up, both_all, if_all, AllPieces, IsKnownBlock, InImage, admitted_image, test_writable}
 use Rattle.lockstep.proofs.Lemmas.{only_inside}
-use Rattle.lean.specs.Tests.{IsLeanTest, LeanTestsKept, LeanTestsCaught, LeanTestsFaults, LeanTestsLanded, LeanTestsStrayed, LeanTestsDisplaced, LeanTestsAdrift, LeanTestsUndisturbed, LeanTestsNoSilentSlip, LeanTestsClean, AreLeanBlocks, LeanTestsHaveWords, LeanTestsWritable}
+use Rattle.lean.specs.Tests.{LeanTestsPlaces, LeanTestsFaultsClean, LeanTestsNoWrongEnd, IsLeanTest, LeanTestsKept, LeanTestsCaught, LeanTestsFaults, LeanTestsLanded, LeanTestsStrayed, LeanTestsDisplaced, LeanTestsAdrift, LeanTestsUndisturbed, LeanTestsNoSilentSlip, LeanTestsClean, AreLeanBlocks, LeanTestsHaveWords, LeanTestsWritable}
 use Rattle.lean.specs.Woven.{LeanIn, LeanPlan, lean_weave_of}
 use Rattle.lean.proofs.Weave.Costs.{call_fits}
 use Rattle.lean.proofs.Weave.Ways.{reads_behind}
@@ -40,15 +40,17 @@ use Rattle.lean.proofs.Weave.Plan.{entry_grain}
 use Rattle.lean.proofs.Weave.Off.{lean_displaced, lean_adrift}
 use Rattle.lean.specs.Strayed.{entry_in}
 use Rattle.lean.specs.Undisturbed.{undisturbed_piece, undisturbed_ends}
+use Rattle.lean.proofs.Weave.NoWrongEnd.{has_bound, no_wrong_end}
 use Rattle.lean.proofs.Weave.Silent.{silent}
 use Rattle.lean.proofs.Weave.Undisturbed.{lean_undisturbed}
 use Rattle.lean.proofs.Weave.Strays.{lean_strayed}
-use Rattle.lean.proofs.Weave.Promise.{lean_in_step, lean_caught, lean_faults, lean_clean}
+use Rattle.lean.proofs.Weave.Promise.{lean_in_step, lean_caught, lean_faults, lean_places, lean_faults_clean, lean_early, lean_clean}
 use Rattle.lean.proofs.Weave.Unmarked.{unmarked_worded, entry_same, same_code, code_size}
 use Rattle.std.specs.List.{list_all}
 use Rattle.std.proofs.lemmas.List.{append_assoc}
 use Rattle.std.proofs.lemmas.List.Elements.{All-head, All-tail}
 use Rattle.tests.specs.Admission.DataRanges.{data_ranges, word_count}
+use Rattle.weave_core.specs.Leaving.{sweep_cost}
 use Rattle.machine.specs.Table.{ins, Illegal, Jal}
 use Rattle.qed_model.specs.Promise.Landed.{IsEntry}
 use Rattle.lean.proofs.Weave.Near.{check_near, begin_near, enter_near, store_near, leave_near, before_near}
@@ -397,6 +399,10 @@ pub tests_faults : LeanTestsFaults
 tests_faults f o every blocks words t reached aims =
     lean_faults (input f o every blocks t.cut words t) (output f o every blocks t.cut words t) (w f o every blocks t.cut words t reached aims) (lean_of f o every blocks) blocks (lean_bounds f o every) (plan f o every blocks t.cut words t reached aims) t.cut.sound.visits (record { register = refl; word = refl })
 
+pub tests_places : LeanTestsPlaces
+tests_places f o every blocks words t reached aims =
+    lean_places (input f o every blocks t.cut words t) (output f o every blocks t.cut words t) (w f o every blocks t.cut words t reached aims) (lean_of f o every blocks) blocks (lean_bounds f o every) (plan f o every blocks t.cut words t reached aims) t.cut.sound.visits (record { register = refl; word = refl })
+
 pub tests_landed : LeanTestsLanded
 tests_landed f o every blocks words t land reached aims =
     let world = w f o every blocks t.cut words t reached aims in
@@ -435,7 +441,7 @@ tests_silent f o every blocks words t reached aims =
     let bounds = lean_bounds f o every in
     silent (input f o every blocks t.cut words t) (output f o every blocks t.cut words t) reached spans (base_of (image_of f)) (half_of o.half (image_of f)) (entry_in f o every blocks) blocks bounds
     (undisturbed_piece o.land (length spans) o.round) (undisturbed_ends spans)
-    (tests_kept f o every blocks words t reached aims) (tests_faults f o every blocks words t reached aims) (tests_undisturbed f o every blocks words t reached aims) (omega arith) (λ c h. least o.land (word_count spans) o.round _ _ c h) where
+    (tests_kept f o every blocks words t reached aims) (tests_faults f o every blocks words t reached aims) (tests_places f o every blocks words t reached aims) (tests_undisturbed f o every blocks words t reached aims) (omega arith) (λ c h. least o.land (word_count spans) o.round _ _ c h) where
       some_same : (x y : ℕ) → Some x ≡ Some y → x ≡ y
       some_same x y e = cc
 
@@ -446,6 +452,19 @@ tests_silent f o every blocks words t reached aims =
 pub tests_clean : LeanTestsClean
 tests_clean f o every blocks words t swept reached aims =
     lean_clean (input f o every blocks t.cut words t) (output f o every blocks t.cut words t) (w f o every blocks t.cut words t reached aims) (lean_of f o every blocks) blocks (plan f o every blocks t.cut words t reached aims) swept
+
+pub tests_faults_clean : LeanTestsFaultsClean
+tests_faults_clean f o every blocks words t swept reached aims =
+    lean_faults_clean (input f o every blocks t.cut words t) (output f o every blocks t.cut words t) (w f o every blocks t.cut words t reached aims) (lean_of f o every blocks) blocks (plan f o every blocks t.cut words t reached aims) swept
+
+pub tests_no_wrong_end : LeanTestsNoWrongEnd
+tests_no_wrong_end f o every blocks words t swept reached aims =
+    let spans = data_ranges (image_of f) in
+    no_wrong_end (input f o every blocks t.cut words t) (output f o every blocks t.cut words t) reached spans (base_of (image_of f)) (half_of o.half (image_of f)) (entry_in f o every blocks) blocks (lean_bounds f o every)
+    (undisturbed_piece o.land (length spans) o.round) (undisturbed_ends spans) (sweep_cost spans + 14)
+    (tests_kept f o every blocks words t reached aims) (tests_faults f o every blocks words t reached aims) (tests_places f o every blocks words t reached aims) (tests_undisturbed f o every blocks words t reached aims) (tests_faults_clean f o every blocks words t swept reached aims)
+    (λ i u s. has_bound o.land spans o.round _ _ i u s)
+    (lean_early (input f o every blocks t.cut words t) (output f o every blocks t.cut words t) (w f o every blocks t.cut words t reached aims) (lean_of f o every blocks) blocks (plan f o every blocks t.cut words t reached aims) swept)
 
 pub tests_have_words : LeanTestsHaveWords
 tests_have_words f o every blocks t size = have_words f o every blocks t size

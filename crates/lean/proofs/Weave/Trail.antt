@@ -26,7 +26,7 @@ over_stops o h e = ⊎_elim (λ f. absurd (cc)) (λ t. absurd (going_no_trap o t
   going_no_trap : (o : Outcome) → is_trapped o ≡ true → o ≡ Going → ⊥
   going_no_trap o t e = false≢true (sym (ap is_trapped e) ∙ t)
 
-changed_stopped : (o : Outcome) (c : Change) (s : State) → (o ≡ Going → ⊥) → changed_as o c s ≡ s
+pub changed_stopped : (o : Outcome) (c : Change) (s : State) → (o ≡ Going → ⊥) → changed_as o c s ≡ s
 changed_stopped Going c s h = absurd (h refl)
 changed_stopped Ended c s h = refl
 changed_stopped Fired c s h = refl

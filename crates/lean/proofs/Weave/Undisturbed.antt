@@ -20,7 +20,7 @@ use Rattle.weave_core.specs.Rows.{Sourced}
 use Rattle.weave_core.specs.WeaveLaws.{Met}
 use Rattle.weave_core.specs.World.{World, GoodSpans, Program, Going, Ended, AreStartRegs, Ins, Item, Plain, Known, next, Go, start, zeros, State, get, flags_at, reg, set_reg, moved, result, class_of, step, run}
 use Rattle.lean.specs.Strayed.{IsOver, Stopped}
-use Rattle.lean.specs.Undisturbed.{HasOriginals, ComesTo, AllDuplicate, SlipsDuplicate, SlipsOther, GoesOn, slip_steps, slipped_run, FollowsTo, EndsRight, change_price, Undisturbed, undisturbed_piece, undisturbed_ends}
+use Rattle.lean.specs.Undisturbed.{HasOriginals, ComesTo, AllDuplicate, AllMay, SlipsDuplicate, SlipsOther, GoesOn, slip_steps, slipped_run, FollowsTo, EndsRight, change_price, Undisturbed, undisturbed_piece, undisturbed_ends}
 use Rattle.lean.specs.Woven.{LeanPlan, LeanUndisturbed}
 use Rattle.lean.proofs.Weave.Carry.{over_moved, length-set_reg, slice_index-set_reg_zero, addi_value, run-last, run-more, run-none, met_same, Standing, standing_run, some-flags, first_sourced, steady_rest}
 use Rattle.lean.proofs.Weave.Chain.{cost_append}
@@ -28,6 +28,7 @@ use Rattle.lean.proofs.Weave.Beyond.{begin_beyond}
 use Rattle.lean.proofs.Weave.Half.{Half, Into, half_spare}
 use Rattle.lean.proofs.Weave.Inside.{sized_run, small_at}
 use Rattle.lean.proofs.Weave.Skipped.{Loses}
+use Rattle.lean.proofs.Weave.Idle.{of_duplicates, all_duplicate, fewer, follows_like}
 use Rattle.lean.proofs.Weave.Robust.{Disturbed, Robust, EveryOf, Onto, With, Before_words, words_last, half_met, leads_word, mends, Slip, Calm, slip_gives, slip_skips, same_word, computes}
 use Rattle.lean.proofs.Weave.RobustEnter.{entry_most, check_most}
 use Rattle.lean.proofs.Weave.RobustEnd.{Room, end_most, sweep_most}
@@ -326,12 +327,22 @@ module _ (f g : Program) (w : World) (l : Lean) (blocks : List Block) (p : LeanP
               (31 + end_most w + dear, robust_disturbed w bound dear (fuel * 2) (suc n) s0 (31 + end_most w) (start g regs) (y 0) (omega arith) d.0 (starts false (suc (fuel * 2)) (suc n) regs are known), omega (arith, sum, le)))
               front
 
-    -- with any changes
-    keeps_to : (regs : List ℕ) (cs : List Change) (n : ℕ) → AreStartRegs regs → AllDuplicate g w.base w.distance cs → Steady f w.reached n
+    -- with any changes of the duplicate half
+    plays_all : (regs : List ℕ) (cs : List Change) (n : ℕ) → AreStartRegs regs → AllDuplicate g w.base w.distance cs → Steady f w.reached n
         → FollowsTo f n (31 + bound + ends + length cs * dear) bound (changed_run (start g regs) cs)
-    keeps_to regs cs n are all st =
+    plays_all regs cs n are all st =
         let su = first_stands regs are in
         plays_to regs (changed_run (start g regs) cs) (length cs) n (changes_play g w p.world.output (start g regs) cs all su) are (first_changes g w p.world.output (start g regs) cs all su) st
+
+    -- and of x30 and x31 while they wait for no use
+    keeps_to : (regs : List ℕ) (cs : List Change) (n : ℕ) → AreStartRegs regs → AllMay g w.base w.distance (changed_run (start g regs) cs) cs → Steady f w.reached n
+        → FollowsTo f n (31 + bound + ends + length cs * dear) bound (changed_run (start g regs) cs)
+    keeps_to regs cs n are may st =
+        let y = changed_run (start g regs) cs in
+        let ds = of_duplicates g w.base w.distance y cs may in
+        let le : length ds * dear ≤ length cs * dear = mul-le-mul_right dear (fewer g w.base w.distance y cs may) in
+        follows_like (start g regs) cs g w.base w.distance may f n (31 + bound + ends + length ds * dear) (31 + bound + ends + length cs * dear) bound (omega (arith, le))
+        (plays_all regs ds n are (all_duplicate g w.base w.distance y cs may) st)
 
     -- with a slip
     slips_to : (regs : List ℕ) (m n : ℕ) (i : Ins) (v : State) → AreStartRegs regs → (after_output g regs m).outcome ≡ Going → next (after_output g regs m) ≡ Known i → (after_output g regs (m + 1)).outcome ≡ Going

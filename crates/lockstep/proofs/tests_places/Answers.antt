@@ -1,0 +1,5 @@
+use Rattle.lockstep.proofs.InstructionFaults as faults
+use Rattle.lockstep.proofs.tests_places.Goals as goal
+
+pub returns : goal.returns
+returns c = faults.tests_places
