@@ -71,7 +71,7 @@ def _usage(words: List[str], reason: str) -> str:
     if head not in SENTENCES:
         head, tail = reason, ""
     steps = f" {tail}" if head == "few steps" else ""
-    tail = {"all entries": "entries", "few steps": "every"}.get(head, tail)
+    tail = {"all entries": "entries", "few steps": "every", "slip and reached": "slip"}.get(head, tail)
     called = OTHER_NAMES.get(words[0], words[0]) if words else ""
     command = called if called in COMMANDS else None
     if head == "unknown command":
@@ -81,7 +81,7 @@ def _usage(words: List[str], reason: str) -> str:
         fault = int(tail), words[int(tail)]
     else:
         fault = _value(words, tail) if tail else None
-    text = SENTENCES[head] + steps
+    text = SENTENCES.get(reason, SENTENCES[head]) + steps
     if fault:
         text = f"'{printable(encoded(fault[1]))}', word {fault[0]}: {text}"
     elif head == "missing option":

@@ -11,10 +11,11 @@ from typing import Callable, Dict, List, Optional, Tuple
 import isa
 from admission import Options, Test, admit, blocks, reached
 from assembler import CODE, DATA, assemble
-from campaign import Aim, Course, strikes_text
+from campaign import Aim, Course, slips_text, strikes_text
 from elf import STB_LOCAL, STT_NOTYPE, File, first_sharing, read_elf
 from generator import generate
-from machine import ENDED, FIRED, GOING, Hart, Memory, Watched, code_ranges, loads_of, run_changed, start, start_watched
+from machine import (ENDED, FIRED, GOING, Hart, Memory, Watched, code_ranges, loads_of, run_changed, run_slipped, start,
+                     start_watched)
 from output import output_file, packed, plain_file
 from texts import Exceeded, Refused, Stopped, encoded, hex16, number_or_none, printable
 from lean import Lean, weave_lean
@@ -189,11 +190,16 @@ def jumps_line(hart: Watched) -> str:
     return f"jump at {hex16(hart.astray[0])} to {hex16(hart.astray[1])} not reached\n"
 
 
-def hart_text(hart: Hart) -> str:
-    """The lines of `run` about a hart ("Printed lines")."""
-    lines = [f"{hart.outcome} after {hart.steps} steps at {hex16(hart.pc)}\n"]
-    if isinstance(hart, Watched):
-        lines.append(jumps_line(hart))
+def slip_line(found: Optional[Tuple[int, bool]]) -> str:
+    """The line of `--slip` ("Printed lines", run)."""
+    if found is None:
+        return "slip not reached\n"
+    return f"{'slipped' if found[1] else 'no such slip'} at {hex16(found[0])}\n"
+
+
+def hart_text(hart: Hart, second: str = "") -> str:
+    """The lines of `run` about a hart, with a second one where there is one ("Printed lines")."""
+    lines = [f"{hart.outcome} after {hart.steps} steps at {hex16(hart.pc)}\n", second]
     lines += [f"x{register} {hex16(hart.x[register])}\n" for register in range(1, 32)]
     return "".join(lines)
 
@@ -267,9 +273,14 @@ def _run(order: Order, shelf: Shelf) -> Answer:
     test = admit(file, Options()) if "reached" in order.flags else None
     check_memory([file])
     hart = start_watched(file, reached(test)) if test else start(file)
-    run_changed(hart, order.values.get("fault", []), order.values.get("steps", DEFAULT_STEPS))
+    changes, slip, most = order.values.get("fault", []), order.values.get("slip"), order.values.get("steps", DEFAULT_STEPS)
+    if slip:
+        second = slip_line(run_slipped(hart, changes, slip, most))
+    else:
+        run_changed(hart, changes, most)
+        second = jumps_line(hart) if test else ""
     dump = order.values.get("dump")
-    return status_of([hart.outcome]), hart_text(hart) + (dump_text(hart.memory, *dump) if dump else "")
+    return status_of([hart.outcome]), hart_text(hart, second) + (dump_text(hart.memory, *dump) if dump else "")
 
 
 def _campaign(order: Order, shelf: Shelf) -> Answer:
@@ -278,6 +289,8 @@ def _campaign(order: Order, shelf: Shelf) -> Answer:
     course = Course(done.test, done.woven, done.output)
     values = order.values
     aim = Aim(values.get("only"), values.get("from", 0), values.get("to"))
+    if aim.only == "slips":
+        return 0, slips_text(course, course.draw_slips(values["seed"], values["count"], aim), "results" in order.flags)
     strikes = course.draw(values["seed"], values["count"], values.get("changes", 1), aim)
     return strikes_text(course, strikes, "results" in order.flags)
 

@@ -1,4 +1,4 @@
-"""Strikes of outputs and their verdicts (docs/FORMATS.md, "Printed lines"; PROFILE.md, "Closed places")."""
+"""Strikes and slips of outputs and their verdicts (docs/FORMATS.md, "Printed lines"; PROFILE.md, "Closed places")."""
 
 from __future__ import annotations
 
@@ -8,7 +8,7 @@ from typing import List, Optional, Tuple
 import isa
 from admission import Test
 from elf import read_elf
-from machine import Change, ENDED, FIRED, GOING, Hart, Place, run_changed, start
+from machine import Change, ENDED, FIRED, GOING, WORD, Hart, Place, Slip, place_of, run_changed, start, writes_register
 from pcg import random_words
 from texts import hex16, number_or_none
 from weave import Bounds, Woven, pair
@@ -16,6 +16,7 @@ from weave import Bounds, Woven, pair
 MOST_REACH = 1000000
 SNAPSHOT_STEPS = 4096
 VERDICTS = ["fired", "ended", "same", "closed", "not reached"]
+SLIP_VERDICTS = ["fired", "trapped", "ended", "going", "not reached"]
 
 
 class InputTrapped(Exception):
@@ -28,7 +29,7 @@ class InputTrapped(Exception):
 
 @dataclass
 class Verdict:
-    """What a strike showed, with the steps behind the last change where a check fired or the test ended."""
+    """What a strike or a slip showed, with the steps behind it where the run stopped."""
     name: str
     steps: Optional[int] = None
     is_right: bool = False
@@ -43,7 +44,7 @@ class Verdict:
 
 @dataclass
 class Aim:
-    """Where an output is struck: one kind of places or both, the least step, and the step behind the greatest."""
+    """Where an output is struck: one kind of places, both, or slips; the least step, and the step behind the greatest."""
     only: Optional[str] = None
     first: int = 0
     end: Optional[int] = None
@@ -158,12 +159,59 @@ class Course:
             return 1 <= int(place[1:]) <= 13
         return any(data.start <= place < data.end for data in self.test.data)
 
+    def slip(self, slip: Slip) -> Verdict:
+        """The verdict of a slip ("Slips of a campaign")."""
+        hart = self.clean(slip.step)
+        if hart.outcome != GOING:
+            return Verdict("not reached")
+        i = _next(hart, 0)
+        is_store = i is not None and i.group == "store"
+        bound = self.bounds.word if is_store and self.bounds.word is not None else self.bounds.register
+        hart.slip(slip)
+        hart.run(slip.step + 1 + bound)
+        if hart.outcome == GOING:
+            return Verdict(GOING)
+        name = hart.outcome.split()[0]
+        return Verdict(name, hart.steps - slip.step - 1, name == ENDED and self.is_right(hart, hart.steps))
+
+    def window(self, aim: Aim) -> int:
+        """How many steps there are to draw from."""
+        return max((self.reach if aim.end is None else aim.end) - aim.first, 1)
+
+    def draw_slips(self, seed: int, count: int, aim: Aim) -> List[Slip]:
+        """The slips of a seed ("Slips of a campaign")."""
+        stream, slips = random_words(seed), []
+        for _ in range(count):
+            step = aim.first + next(stream) % self.window(aim)
+            slips.append(Slip(step, *self.way(self.clean(step), next(stream), next(stream))))
+        return slips
+
+    def way(self, hart: Hart, word: int, value: int) -> Tuple[str, Optional[int]]:
+        """How the instruction at the pc goes wrong, by two random words ("Slips of a campaign")."""
+        i = _next(hart, 0)
+        if i is not None and i.group == "store":
+            ways = [("skip", None), ("store", value), ("place", self.other_place(place_of(hart, i), value))]
+        elif i is not None and i.group == "branch":
+            ways = [("skip", None), ("branch", None)]
+        elif i is not None and writes_register(i):
+            ways = [("skip", None), ("result", value)]
+        else:
+            ways = [("skip", None)]
+        return ways[word % len(ways)]
+
+    def other_place(self, right: int, value: int) -> int:
+        """Another place of a store than this one: a data word, in the same half ("Slips of a campaign")."""
+        number, count = value % max(self.test.data_words, 1), self.test.data_words
+        word = self.test.data_word(number) if number < count else 0
+        is_original = any(data.start <= right < data.end for data in self.test.data)
+        return word + (0 if is_original else self.test.distance) & WORD
+
     def draw(self, seed: int, count: int, most: int, aim: Aim) -> List[List[Change]]:
         """The strikes of a seed ("Printed lines")."""
         stream = random_words(seed)
         registers = [] if aim.only == "words" else [f"x{number}" for number in range(1, 14)]
         places = len(registers) + (0 if aim.only == "registers" else self.test.data_words)
-        window = max((self.reach if aim.end is None else aim.end) - aim.first, 1)
+        window = self.window(aim)
         strikes = []
         for _ in range(count if places else 0):
             changes = []
@@ -193,6 +241,14 @@ def _count(name: str, verdicts: List[Verdict], results: bool) -> str:
     return f"{name} {len(found)} ({right} right, {len(found) - right} wrong)"
 
 
+def _last_line(kind: str, names: List[str], course: Course, verdicts: List[Verdict], results: bool) -> str:
+    """The last line of strikes or slips ("Printed lines")."""
+    counts = ", ".join(_count(name, verdicts, results) for name in names)
+    longest = max((verdict.steps for verdict in verdicts if verdict.name == "fired"), default=0)
+    return (f"{kind} {len(verdicts)}, {counts}, longest {longest}, "
+            f"register bound {course.bounds.register}, word bound {number_or_none(course.bounds.word)}\n")
+
+
 def strikes_text(course: Course, strikes: List[List[Change]], results: bool = False) -> Tuple[int, str]:
     """The exit code, and the lines of strikes with the last one ("Printed lines")."""
     lines, verdicts = [], []
@@ -202,7 +258,17 @@ def strikes_text(course: Course, strikes: List[List[Change]], results: bool = Fa
         except InputTrapped as trapped:
             return 11, "".join(lines) + f"input trapped at {hex16(trapped.pc)}\n"
         lines.append(strike_line(number, changes, verdicts[-1], results))
-    counts = ", ".join(_count(name, verdicts, results) for name in VERDICTS)
-    longest = max((v.steps for v in verdicts if v.name == "fired"), default=0)
-    return 0, (f"{''.join(lines)}strikes {len(strikes)}, {counts}, longest {longest}, "
-               f"register bound {course.bounds.register}, word bound {number_or_none(course.bounds.word)}\n")
+    return 0, "".join(lines) + _last_line("strikes", VERDICTS, course, verdicts, results)
+
+
+def slip_line(number: int, slip: Slip, verdict: Verdict, results: bool) -> str:
+    """The line of a slip ("Printed lines")."""
+    value = "" if slip.value is None else f"={hex16(slip.value)}"
+    return f"{number} step {slip.step} {slip.way}{value} {verdict.text(results)}\n"
+
+
+def slips_text(course: Course, slips: List[Slip], results: bool) -> str:
+    """The lines of slips with the last one ("Printed lines")."""
+    verdicts = [course.slip(slip) for slip in slips]
+    lines = [slip_line(number, slip, verdict, results) for number, (slip, verdict) in enumerate(zip(slips, verdicts))]
+    return "".join(lines) + _last_line("slips", SLIP_VERDICTS, course, verdicts, results)

@@ -9,6 +9,7 @@ from typing import Callable, Dict, List, Optional, Tuple, Union
 
 import isa
 from admission import admit
+from calls import transform
 from elf import HEADER, PROGRAM_HEADER, RELA, SECTION_HEADER, SYMBOL, read_elf
 from machine import GOING, start
 from texts import Stopped
@@ -406,6 +407,42 @@ def draw_faults(rng: random.Random, places: List[str], steps: int) -> List[str]:
     return words
 
 
+def groups_of(file: bytes, most: int) -> List[str]:
+    """The groups of the instructions that a run makes in so many steps. What is no file makes none."""
+    groups: List[str] = []
+    try:
+        hart = start(read_elf(file))
+    except Stopped:
+        return groups
+    while hart.outcome == GOING and len(groups) < most:
+        word = hart.next_word()
+        i = None if word is None else isa.decode(word)
+        groups.append("" if i is None else i.group)
+        hart.step()
+    return groups
+
+
+def draw_slip(rng: random.Random, file: bytes, addresses: List[str], steps: int) -> List[str]:
+    """A slip of a run, often none, and often one that its instruction has."""
+    if chance(rng, 50):
+        return []
+    way = rng.choice(["skip", "branch", "result", "store", "place"])
+    group = {"branch": "branch", "store": "store", "place": "store"}.get(way)
+    found = [step for step, other in enumerate(groups_of(file, steps)) if group in (None, other)]
+    step = rng.choice(found) if found and chance(rng, 80) else rng.randrange(steps + 1)
+    place = rng.choice(addresses + [str(draw_number(rng))])
+    value = {"result": f"={draw_value(rng)}", "store": f"={draw_value(rng)}", "place": f"={place}"}.get(way, "")
+    return ["--slip", f"{step}:{way}{value}"]
+
+
+def output_of(draft: Draft, options: List[str]) -> bytes:
+    """The output of a test, or nothing where there is none."""
+    try:
+        return transform(draft.build(), order_of(["plan", "IN", *options]).options()).output
+    except Stopped:
+        return b""
+
+
 def draw_edge_draft(rng: random.Random) -> Draft:
     """A file whose accesses are at both ends of memory, or in its own code."""
     at_ends = chance(rng, 60)
@@ -425,7 +462,7 @@ def draw_edge_draft(rng: random.Random) -> Draft:
 
 
 def draw_run(rng: random.Random) -> Case:
-    """Runs of a file, of an output, with changes and dumps."""
+    """Runs of a file, of an output, with changes, slips and dumps."""
     draft = draw_edge_draft(rng) if chance(rng, 15) else draw_draft(rng, rng.choice([0, 5, 40]))
     registers = [f"x{number}" for number in range(1, 32)]
     words = [str(segment.vaddr // 8 * 8) for segment in draft.segments]
@@ -435,12 +472,15 @@ def draw_run(rng: random.Random) -> Case:
     if chance(rng, 40):
         steps = rng.choice([0, 1, 5, 100, 300])
         dump = ["--dump", f"{rng.choice(words)}:{rng.choice([1, 8, 16, 17, 40])}"] if chance(rng, 40) else []
-        watched = ["--reached"] if chance(rng, 60) else []
-        return Case({"IN": draft}, (("run", "IN", "--steps", str(steps), *draw_faults(rng, places, 40), *dump, *watched),))
+        more = ["--reached"] if chance(rng, 50) else draw_slip(rng, draft.build(), words, 40)
+        return Case({"IN": draft}, (("run", "IN", "--steps", str(steps), *draw_faults(rng, places, 40), *dump, *more),))
     steps = rng.choice([50, 300, 1000, 3000])
-    runs = [("transform", "IN", "OUT", *draw_options(rng))]
+    options = draw_options(rng)
+    runs = [("transform", "IN", "OUT", *options)]
+    output = output_of(draft, options)
     for _ in range(rng.choice([1, 2, 3])):
-        runs.append(("run", "OUT", "--steps", str(steps), *draw_faults(rng, places, min(steps, 400))))
+        runs.append(("run", "OUT", "--steps", str(steps), *draw_faults(rng, places, min(steps, 400)),
+                     *draw_slip(rng, output, words, min(steps, 400))))
     return Case({"IN": draft}, tuple(runs))
 
 
@@ -497,12 +537,16 @@ def draw_campaign(rng: random.Random) -> Case:
     draft = draw_draft(rng, rng.choice([0, 0, 3]))
     while not stops(draft):
         draft = draw_draft(rng, 0)
-    words = ["campaign", "IN", "--seed", str(draw_number(rng)), "--count", str(rng.choice([1, 3, 10])),
+    is_of_slips = chance(rng, 30)
+    words = ["campaign", "IN", "--seed", str(draw_number(rng)), "--count", str(rng.choice([3, 30] if is_of_slips else [1, 3, 10])),
              *draw_options(rng)]
-    if chance(rng, 40):
-        words += ["--changes", str(rng.choice([2, 3, 16]))]
-    if chance(rng, 30):
-        words += ["--only", rng.choice(["registers", "words"])]
+    if is_of_slips:
+        words += ["--only", "slips"]
+    else:
+        if chance(rng, 40):
+            words += ["--changes", str(rng.choice([2, 3, 16]))]
+        if chance(rng, 30):
+            words += ["--only", rng.choice(["registers", "words"])]
     if chance(rng, 30):
         words += ["--from", str(rng.choice([0, 1, 7, 40, 1000]))]
     if chance(rng, 30):
@@ -608,9 +652,10 @@ VALUES = ["0", "1", "2", "4", "8", "9", "16", "17", "1024", "1025", "4096", "409
           "0x20001000", "1000000000000", "1000000000001", "18446744073709551615", "18446744073709551616", "0x", "0xg",
           "x", "-1", "", "0:x1=1", "5:x31=0xff", "0:x32=1", "0:x01=1", "1:8=1", "1:9=1", ":8=1", "1:8", "0:1",
           "0:65536", "0:65537", "0xffffffffffffffff:1", "0xffffffffffffffff:2", "01", "012345678", "9", "10000",
-          "10001", "60000", "60001", "1000000", "1000001", "registers", "words", "all", "reached"]
+          "10001", "60000", "60001", "1000000", "1000001", "registers", "words", "slips", "all", "reached",
+          "5:skip", "0:branch", "1:result=0xff", "2:store=7", "3:place=9", "4:skip=", "5:result", ":store=1", "x:place=1"]
 OPTIONS = ["inst-min", "inst-max", "round", "half", "entries", "sweep", "diverse", "lean", "every", "land",
-           "steps", "fault", "dump", "seed", "count", "changes", "only", "from", "to", "results", "reached", "size",
+           "steps", "fault", "slip", "dump", "seed", "count", "changes", "only", "from", "to", "results", "reached", "size",
            "turns", "at", "help", ""]
 
 

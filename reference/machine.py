@@ -151,6 +151,14 @@ class Change:
     value: int
 
 
+@dataclass(frozen=True)
+class Slip:
+    """The instruction behind so many steps goes wrong once: `skip`, `branch`, `result`, `store` or `place` with a number."""
+    step: int
+    way: str
+    value: Optional[int] = None
+
+
 class Hart:
     """A hart in a memory: its pc, registers, count of steps and outcome ("A file in memory")."""
 
@@ -196,6 +204,20 @@ class Hart:
             action(self)
         except Stop as stop:
             self.outcome = str(stop)
+
+    def slip(self, slip: Slip) -> bool:
+        """Makes a step in which the instruction goes wrong, and says whether it has this slip ("A file in memory")."""
+        word = self.next_word()
+        action = None if word is None else slipped(word, slip)
+        if action is None:
+            self.step()
+            return False
+        self.steps += 1
+        try:
+            action(self)
+        except Stop as stop:
+            self.outcome = str(stop)
+        return True
 
     def run(self, most: int) -> None:
         """Makes steps until it stops or has made so many in all."""
@@ -245,6 +267,16 @@ def run_changed(hart: Hart, changes: List[Change], most: int) -> None:
         if hart.outcome == GOING and hart.steps == change.step:
             hart.change(change)
     hart.run(most)
+
+
+def run_slipped(hart: Hart, changes: List[Change], slip: Slip, most: int) -> Optional[Tuple[int, bool]]:
+    """The same with a slip: the pc of its step, and whether the instruction has it; None if the step is not reached."""
+    run_changed(hart, [change for change in changes if change.step <= slip.step], min(slip.step, most))
+    found = None
+    if hart.outcome == GOING and hart.steps < most:
+        found = hart.pc, hart.slip(slip)
+    run_changed(hart, [change for change in changes if change.step > slip.step], most)
+    return found
 
 
 # Steps
@@ -298,14 +330,19 @@ def _load(i: isa.Instruction) -> Action:
     return _setting(i.rd, value)
 
 
-def _store(i: isa.Instruction) -> Action:
-    """The step of a store ("Values")."""
+def place_of(hart: Hart, i: isa.Instruction) -> int:
+    """The address of a store ("Values")."""
+    return hart.x[i.rs1] + i.imm & WORD
+
+
+def _store(i: isa.Instruction, value: Optional[int] = None, place: Optional[int] = None) -> Action:
+    """The step of a store ("Values"), which may slip to another value or place."""
     size = isa.ACCESS_SIZES[i.name]
     low = (1 << 8 * size) - 1
 
     def act(hart: Hart) -> None:
-        address = hart.x[i.rs1] + i.imm & WORD
-        if not hart.memory.store(address, size, hart.x[i.rs2] & low, PF_W):
+        address = place_of(hart, i) if place is None else place
+        if not hart.memory.store(address, size, (hart.x[i.rs2] if value is None else value) & low, PF_W):
             raise Stop(f"trapped store 0x{address:016x}")
         hart.pc = hart.pc + 4 & WORD
     return act
@@ -328,12 +365,12 @@ def _jump(i: isa.Instruction) -> Action:
     return act
 
 
-def _branch(i: isa.Instruction) -> Action:
-    """The step of a branch ("Values")."""
+def _branch(i: isa.Instruction, is_right: bool = True) -> Action:
+    """The step of a branch ("Values"), which may slip the other way."""
     taken, rs1, rs2 = isa.TAKEN[i.name], i.rs1, i.rs2
 
     def act(hart: Hart) -> None:
-        is_taken = taken(hart.x[rs1], hart.x[rs2])
+        is_taken = taken(hart.x[rs1], hart.x[rs2]) == is_right
         hart.pc = _target(hart.pc + i.imm) if is_taken else hart.pc + 4 & WORD
     return act
 
@@ -356,3 +393,32 @@ def action_of(word: int) -> Action:
     if i is None or i == isa.ZERO:
         return stopping(f"trapped word 0x{word:08x}")
     return ACTIONS[i.group](i)
+
+
+def writes_register(i: isa.Instruction) -> bool:
+    """Whether an instruction writes a register other than x0."""
+    return any(isa.writes(i))
+
+
+def slipped(word: int, slip: Slip) -> Optional[Action]:
+    """What a step at a word does that goes wrong so, or None where the word has no such slip ("A file in memory")."""
+    i = isa.decode(word)
+    if i is None:
+        return None
+    if slip.way == "skip":
+        return _setting(0, lambda hart: 0)
+    if slip.way == "branch":
+        return _branch(i, False) if i.group == "branch" else None
+    if slip.way == "result":
+        return _resulting(i, action_of(word), slip.value) if writes_register(i) else None
+    if i.group != "store":
+        return None
+    return _store(i, value=slip.value) if slip.way == "store" else _store(i, place=slip.value)
+
+
+def _resulting(i: isa.Instruction, right: Action, value: int) -> Action:
+    """A step that gives rd another number, if it does not trap."""
+    def act(hart: Hart) -> None:
+        right(hart)
+        hart.x[i.rd] = value
+    return act

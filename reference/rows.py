@@ -13,7 +13,7 @@ from admission import Options, admit, blocks, leaders, reached
 from calls import WRITE_FAULT, Shelf, answer, transform
 from campaign import Course, is_closed, strikes_text
 from elf import read_elf
-from machine import Change, start
+from machine import Change, Slip, start
 from texts import Stopped, Usage, encoded, number_or_none
 from weave import bounds
 from words import Order, change_of, number_of, order_of
@@ -98,6 +98,12 @@ def _change(change: Change) -> str:
     return f"Change {{ step: {change.step}, place: {place}, value: {change.value} }}"
 
 
+def _slip(slip: Slip) -> str:
+    """A slip."""
+    way = slip.way.capitalize() + ("" if slip.value is None else f"({slip.value})")
+    return f"SlipAt {{ step: {slip.step}, slip: {way} }}"
+
+
 def _listed(items: List[str]) -> str:
     """A list."""
     return f"Listed {{ items: [{', '.join(items)}] }}"
@@ -127,13 +133,17 @@ def order_text(order: Order) -> str:
     if order.command == "run":
         dump = "Some(({}, {}))".format(*values["dump"]) if "dump" in values else "None"
         changes = _listed([_change(change) for change in values.get("fault", [])])
-        parts += [str(values.get("steps", 1000000)), changes, dump, str("reached" in order.flags).lower()]
+        slip = f"Slip({_slip(values['slip'])})" if "slip" in values else "Nothing"
+        parts += [str(values.get("steps", 1000000)), changes, dump, "Jumps" if "reached" in order.flags else slip]
     elif order.command == "campaign":
-        only = f"Some({values['only'].capitalize()})" if "only" in values else "None"
+        only = values.get("only", "slips")
+        places = "None" if only == "slips" else f"Some({only.capitalize()})"
         end = f"Some({values['to']})" if "to" in values else "None"
         parts += [f"Draws {{ seed: {values['seed']}, count: {values['count']}, changes: {values.get('changes', 1)}, "
-                  f"aim: Aim {{ only: {only}, from: {values.get('from', 0)}, to: {end} }} }}",
+                  f"aim: Aim {{ only: {places}, from: {values.get('from', 0)}, to: {end} }} }}",
                   str("results" in order.flags).lower()]
+        if values.get("only") == "slips":
+            return f"Slips({', '.join(parts)})"
     elif order.command == "gen":
         parts += [str(values["seed"]), str(values["size"])]
     elif order.command == "harts":

@@ -8,7 +8,7 @@ from typing import Callable, Dict, List, Optional, Tuple, Union
 
 from admission import Options
 from lean import MOST_COUNT, few_steps
-from machine import Change, Place
+from machine import Change, Place, Slip
 from texts import Usage, number_of
 
 MOST_FAULTS = 64
@@ -31,7 +31,7 @@ COMMANDS = {
     "transform": Command(2, 2, WEAVING, [], WEAVING_FLAGS),
     "plan": Command(1, 1, WEAVING, [], WEAVING_FLAGS),
     "explain": Command(1, 1, WEAVING + ["at"], [], WEAVING_FLAGS),
-    "run": Command(1, 1, ["steps", "fault", "dump"], [], ["reached"]),
+    "run": Command(1, 1, ["steps", "fault", "slip", "dump"], [], ["reached"]),
     "campaign": Command(1, 1, WEAVING + ["seed", "count", "changes", "only", "from", "to"], ["seed", "count"],
                         WEAVING_FLAGS + ["results"]),
     "gen": Command(1, 1, ["seed", "size"], ["seed", "size"]),
@@ -47,7 +47,7 @@ RANGES = {"inst-min": (1, 1024), "inst-max": (1, 1024), "round": (1, 1024), "hal
           "steps": (0, 10 ** 12), "seed": (0, (1 << 64) - 1), "count": (1, 10000), "changes": (1, 16),
           "size": (1, 60000), "from": (0, 1000000), "to": (1, 1000000), "at": (0, (1 << 64) - 1), "every": (1, MOST_COUNT)}
 
-Value = Union[int, List[Change], Tuple[int, int], List[int], str]
+Value = Union[int, List[Change], Slip, Tuple[int, int], List[int], str]
 
 
 @dataclass
@@ -83,6 +83,17 @@ def change_of(text: str) -> Optional[Change]:
     return None if None in (step, place, value) else Change(step, place, value)
 
 
+def slip_of(text: str) -> Optional[Slip]:
+    """The slip that a value of `slip` is, or None (the table of values)."""
+    step_text, _, way = text.partition(":")
+    step = number_of(step_text)
+    if step is None or way in ("skip", "branch"):
+        return None if step is None else Slip(step, way)
+    name, _, value_text = way.partition("=")
+    value = number_of(value_text)
+    return Slip(step, name, value) if name in ("result", "store", "place") and value is not None else None
+
+
 def dump_of(text: str) -> Optional[Tuple[int, int]]:
     """The address and the length that a value of `dump` is, or None (the table of values)."""
     address, length = (number_of(part) for part in text.partition(":")[::2])
@@ -102,8 +113,8 @@ def one_of(*words: str) -> Callable[[str], Optional[str]]:
 
 
 SHAPES: Dict[str, Callable[[str], Optional[Value]]] = {
-    "fault": change_of, "dump": dump_of, "turns": turns_of, "only": one_of("registers", "words"),
-    "entries": one_of("all", "reached")}
+    "fault": change_of, "slip": slip_of, "dump": dump_of, "turns": turns_of,
+    "only": one_of("registers", "words", "slips"), "entries": one_of("all", "reached")}
 
 
 def _collect(words: List[str], command: Command) -> Tuple[List[str], Dict[str, List[str]], List[str]]:
@@ -194,6 +205,10 @@ def order_of(words: List[str]) -> Order:
         _lean(order.options())
     if "from" in order.values and "to" in order.values and order.values["from"] >= order.values["to"]:
         raise Usage("out of range to")
+    if "slip" in order.values and "reached" in flags:
+        raise Usage("slip and reached")
+    if order.values.get("only") == "slips" and order.values.get("changes", 1) != 1:
+        raise Usage("out of range changes")
     if called == "help" and files and files[0] not in COMMANDS:
         raise Usage("unknown command")
     return order

@@ -15,9 +15,9 @@ use Rattle.qed_model.specs.declared.bounds.Bounds.{Bounds}
 use Rattle.qed_model.specs.declared.change.Change.{Change}
 use Rattle.machine.specs.Below.{each}
 use Rattle.qed_model.specs.Promise.Caught.{bound_of}
-use Rattle.machine.proofs.Lemmas.{All-each}
+pub use Rattle.machine.proofs.Lemmas.{All-each, each_none, length-each, push_each}
 use Rattle.qed_model.proofs.Lemmas.{in_order_ordered}
-use Rattle.test_gen.proofs.RandomWords.{after-more}
+pub use Rattle.test_gen.proofs.RandomWords.{after-more}
 use Rattle.campaign.specs.Draw.{numbered_place, has_place, drawn_place, drawn_change, drawn_strike, strike_count, drawn_strikes, HasWords, range_of, word_count, seeded, drawn, next_state, after, Plan, has_word, is_word, with_change, in_order}
 use Rattle.campaign.specs.Struck.{IsStrike}
 

@@ -9,3 +9,4 @@ pub mod Making
 pub mod Leaping
 pub mod Comparing
 pub mod Untouched
+pub mod Slipping

@@ -7,3 +7,4 @@ pub mod Kept
 pub mod Draw
 pub mod Struck
 pub mod Right
+pub mod Slips

@@ -10,12 +10,14 @@ ghost use Rattle.campaign.specs.Draw.{drawn_strikes};
 ghost use Rattle.campaign.specs.Kept.{IsReach, copies_up_to};
 ghost use Rattle.qed_model.specs.Promise.Changed.{Ordered};
 ghost use Rattle.campaign.specs.Right.{rights as rights_of};
+ghost use Rattle.campaign.specs.Slips.{AreSlips};
 ghost use Rattle.campaign.specs.Struck.{IsStrike, AreStruck};
 ghost use Rattle.campaign.specs.Verdict.{IsVerdict};
 ghost use Rattle.campaign.specs.Course.{IsCourse, StartsIn};
 
 use crate::{Campaign, Progress, Runs, StrikeError, drawn_strikes};
 use elf_read::read_known;
+use fault_inject::SlipFound;
 use qed_model::{Change, Changes, Draws, Options, Plan, Struck, Verdict};
 use rv_step::Machine;
 use std::alloc::{AllocError, Global};
@@ -171,5 +173,23 @@ impl Course {
         ensures { IfOk result (λ found. found.items ≡ rights_of self.now.runs (map range_of self.now.plan.span) struck.now) }
     {
         self.runs.rights(alloc, self.plan.span.as_slice(), struck)
+    }
+
+    /// Slips that the random words of a seed make, and what each shows: single instructions of the output that go wrong
+    /// once. Each takes three words, for its step as in `draw`, how it goes wrong, and with which number or address.
+    /// `results` asks of each that ended whether it ended right. Reports progress.
+    pub fn slips(
+        &self,
+        alloc: Global,
+        draws: &Draws,
+        results: bool,
+        progress: &mut dyn Progress,
+    ) -> Result<Vec<SlipFound>, AllocError>
+        ensures slips { IfOk result (λ found. AreSlips self.now draws.now results found.items) }
+        ensures told { IfOk result (λ _. told progress.new ≡ draws.now.count) }
+        ensures all { IfOk result (λ _. all progress.new ≡ draws.now.count) }
+    {
+        let slipping = self.runs.slipping(alloc, &self.plan, results);
+        slipping.slips(draws, progress)
     }
 }

@@ -73,7 +73,7 @@ fn drawn_place(plan: &Plan, only: Option<Places>, word: u64) -> Place
 }
 
 /// The step that a random word gives.
-fn drawn_step(aim: Aim, reach: u64, word: u64) -> u64
+pub(crate) fn drawn_step(aim: Aim, reach: u64, word: u64) -> u64
     ensures { result ≡ aim.from + word % window_of aim reach }
 {
     let window = aim.to.unwrap_or(reach).saturating_sub(aim.from).max(1);

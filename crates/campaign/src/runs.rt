@@ -17,12 +17,13 @@ ghost use Rattle.campaign.specs.Verdict.{IsVerdict};
 use crate::error::StrikeError;
 use crate::later::{all_from, first_step};
 use crate::right::same_values;
+use crate::slips::Slipping;
 use crate::snapshots::{SPACING, Snapshots};
 use crate::strike::Strike;
 use crate::verdict::last_step;
 use crate::watched::Watched;
 use fault_inject::{Progress, Silent, Trace, run_changed};
-use qed_model::{Bounds, Change, Changes, Outcome, Place, Range, Struck, Verdict};
+use qed_model::{Bounds, Change, Changes, Outcome, Place, Plan, Range, Struck, Verdict};
 use rv_step::Machine;
 use std::alloc::{AllocError, Global};
 use std::marker::Model;
@@ -163,6 +164,25 @@ impl Runs {
         ensures there { IfSome result (λ machine. machine.now.state ≡ run self.now.output (4096 * number)) }
     {
         self.output.at(number)
+    }
+
+    /// Makes ready for slips of an output with this plan.
+    pub(crate) fn slipping<'a>(
+        &'a self,
+        alloc: Global,
+        plan: &'a Plan,
+        results: bool,
+    ) -> Slipping<'a>
+        ensures runs { (result.input.now ≡ self.now.input) × (result.output.now ≡ record { start = self.now.output; reach = self.now.reach }) }
+        ensures plan { (result.plan.now ≡ plan.now) × (result.results ≡ results) }
+    {
+        Slipping {
+            alloc,
+            input: &self.input,
+            output: &self.output,
+            plan,
+            results,
+        }
     }
 
     /// Whether changes can be struck: their steps do not fall, and if a place is a word, there is a bound for words.

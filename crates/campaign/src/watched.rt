@@ -82,4 +82,20 @@ impl Watched {
         machine.run(more - self.steps.saturating_sub(last))?;
         Ok(Some(machine))
     }
+
+    /// The machine after `last + 1 + more` steps; None if it goes on before and after them.
+    pub fn behind(&self, alloc: Global, last: u64, more: u64) -> Result<Option<Machine>, AllocError>
+        ensures there { IfOk result (λ r. IfSome r (λ machine. machine.state ≡ run self.now (last + 1 + more))) }
+        ensures going { IfOk result (λ r. IfNone r ((run self.now (last + 1 + more)).outcome ≡ outcome.Going)) }
+    {
+        if last < self.steps {
+            let machine = self.later(alloc, last + 1, more)?;
+            return Ok(machine);
+        }
+        let mut machine = self.later.copy(alloc)?;
+        machine.run(last - self.steps)?;
+        machine.run(1)?;
+        machine.run(more)?;
+        Ok(Some(machine))
+    }
 }

@@ -34,6 +34,7 @@ fn sources(order: &Order) -> &[Name] {
         | Order::Explain(name, _, _)
         | Order::Run(name, _, _, _, _)
         | Order::Campaign(name, _, _, _)
+        | Order::Slips(name, _, _, _)
         | Order::List(name)
         | Order::Asm(name, _) => slice::from_ref(name),
         Order::Harts(files, _, _) => files.as_slice(),

@@ -12,10 +12,13 @@ extra word = this is a file more than the command takes
 missing file = a file is missing
 missing option = the option must be given
 bad number = this is no number: digits, or 0x and hexadecimal digits, below 2^64
+bad shape slip = --slip is STEP:skip, STEP:branch, STEP:result=V, STEP:store=V or STEP:place=ADDR
 bad shape = this is not of the option's form
+out of range changes = this is out of the option's range: with --only slips leave --changes out, since a slip is one instruction
 out of range = this is out of the option's range
 split = twice --inst-min is above --inst-max and one: lower --inst-min or raise --inst-max
 all entries = with --lean only reached words have entries: leave --entries all out
+slip and reached = a run watches for one of --slip and --reached: leave one out
 few steps = a block may have as many steps as there are from check to check: lower --inst-max, or raise --every above
 E1 = this is no ELF file
 E2: class 1 = this is an ELF file of 32 bits: compile with -march=rv64im -mabi=lp64

@@ -78,16 +78,16 @@ fn meant(
 fn first_line(
     alloc: Global,
     head: &str,
-    tail: &str,
+    sentence: &str,
+    option: &str,
     word: Option<Word<'_>>,
 ) -> Result<String, AllocError> {
-    let sentence = sentence_of(head).unwrap_or("");
     match word {
         Some(word) => {
             let text = printable(alloc, word.text.as_bytes(), MOST_OF_NAME)?;
             format!(in alloc; "qed: '{text}', word {}: {sentence}", word.number)
         }
-        None if head == "missing option" => format!(in alloc; "qed: --{tail}: {sentence}"),
+        None if head == "missing option" => format!(in alloc; "qed: --{option}: {sentence}"),
         None => format!(in alloc; "qed: {sentence}"),
     }
 }
@@ -113,10 +113,12 @@ pub(crate) fn usage(alloc: Global, words: &[String], reason: &str) -> Result<Str
     let option = match head {
         "all entries" => "entries",
         "few steps" => "every",
+        "slip and reached" => "slip",
         _ => tail,
     };
     let word = at_fault(words, command, head, option);
-    let mut text = first_line(alloc, head, option, word)?;
+    let sentence = sentence_of(reason).or(sentence_of(head)).unwrap_or("");
+    let mut text = first_line(alloc, head, sentence, option, word)?;
     if head == "few steps" {
         text.push_str(&format!(in alloc; " {tail}")?)?;
     }

@@ -41,19 +41,19 @@ AllFrom t cs = Every (λ c. t ≤ c.step) cs
 
 -- ---- the changes at one step
 -- no change is made if each comes later
-none_yet : (n t : ℕ) (cs : List Change) (s : State) → AllFrom t cs → n < t → with_changes cs n s ≡ s
+pub none_yet : (n t : ℕ) (cs : List Change) (s : State) → AllFrom t cs → n < t → with_changes cs n s ≡ s
 unfolding with_changes
 none_yet n t [] s from h = refl
 none_yet n t (c ∷ cs) s from h = let e : (c.step == n) ≡ false = ne_eqb c.step n (λ x. absurd (omega (arith, x, from.0))) in ap (λ b. with_changes cs n (cond b (changed c s) s)) e ∙ none_yet n t cs s from.1 h
 
 -- the changes of one list, then those of another
-with_changes-append : (cs ds : List Change) (n : ℕ) (s : State) → with_changes (cs ++ ds) n s ≡ with_changes ds n (with_changes cs n s)
+pub with_changes-append : (cs ds : List Change) (n : ℕ) (s : State) → with_changes (cs ++ ds) n s ≡ with_changes ds n (with_changes cs n s)
 unfolding with_changes
 with_changes-append [] ds n s = refl
 with_changes-append (c ∷ cs) ds n s = with_changes-append cs ds n (cond (c.step == n) (changed c s) s)
 
 -- one change, at its step
-with_change : (c : Change) (s : State) → with_changes (c ∷ []) c.step s ≡ changed c s
+pub with_change : (c : Change) (s : State) → with_changes (c ∷ []) c.step s ≡ changed c s
 unfolding with_changes
 with_change c s = ap (λ b. cond b (changed c s) s) (eq-eqb c.step c.step refl)
 
@@ -118,7 +118,7 @@ pub record Reached (m : Progress) (cs : List Change) (k done : ℕ) (p : Progres
   pub from : AllFrom done (drop k cs)
 
 -- all changes come at step 0 or later
-all_from_zero : (cs : List Change) → AllFrom 0 cs
+pub all_from_zero : (cs : List Change) → AllFrom 0 cs
 all_from_zero [] = tt
 all_from_zero (c ∷ cs) = (omega arith, all_from_zero cs)
 
@@ -127,18 +127,18 @@ unfolding changed_run changed_steps with_changes
 started m cs = record { now = refl; by = tt; from = all_from_zero cs }
 
 -- steps that do not fall do not fall behind a change
-ordered_drop : (cs : List Change) (k : ℕ) → Ordered cs → Ordered (drop k cs)
+pub ordered_drop : (cs : List Change) (k : ℕ) → Ordered cs → Ordered (drop k cs)
 ordered_drop cs zero o = o
 ordered_drop [] (suc k) o = tt
 ordered_drop (c ∷ []) (suc k) o = ordered_drop [] k tt
 ordered_drop (c ∷ d ∷ cs) (suc k) o = ordered_drop (d ∷ cs) k o.1
 
 -- if the first of ordered changes comes at t or later, so do all
-ordered_from : (t : ℕ) (c : Change) (cs : List Change) → t ≤ c.step → Ordered (c ∷ cs) → AllFrom t cs
+pub ordered_from : (t : ℕ) (c : Change) (cs : List Change) → t ≤ c.step → Ordered (c ∷ cs) → AllFrom t cs
 ordered_from t c [] h o = tt
 ordered_from t c (d ∷ cs) h o = (omega (arith, h, o.0), ordered_from t d cs (omega (arith, h, o.0)) o.1)
 
-all_by_more : (t u : ℕ) (cs : List Change) (c : Change) → AllBy t cs → t ≤ u → c.step ≤ u → AllBy u (cs ++ c ∷ [])
+pub all_by_more : (t u : ℕ) (cs : List Change) (c : Change) → AllBy t cs → t ≤ u → c.step ≤ u → AllBy u (cs ++ c ∷ [])
 all_by_more t u [] c by h l = (l, tt)
 all_by_more t u (d ∷ cs) c by h l = (omega (arith, h, by.0), all_by_more t u cs c by.1 h l)
 
@@ -146,7 +146,7 @@ all_by_more t u (d ∷ cs) c by h l = (omega (arith, h, by.0), all_by_more t u c
 pub drop_at : (cs : List Change) (k : ℕ) (c : Change) → k < length cs → c ≡ get_or cs k c → drop k cs ≡ c ∷ drop (k + 1) cs
 drop_at cs k c lt e = drop-cons cs k c lt ∙ ap (λ d. d ∷ drop (suc k) cs) (sym e) ∙ rw add-one refl
 
-take_at : (cs : List Change) (k : ℕ) (c : Change) → k < length cs → c ≡ get_or cs k c → take (k + 1) cs ≡ take k cs ++ c ∷ []
+pub take_at : (cs : List Change) (k : ℕ) (c : Change) → k < length cs → c ≡ get_or cs k c → take (k + 1) cs ≡ take k cs ++ c ∷ []
 take_at cs k c lt e = rw add-one (take-suc cs k c lt) ∙ ap (λ d. take k cs ++ d ∷ []) (sym e)
 
 -- the changes left come late if the next one does, or if none is left

@@ -4,3 +4,4 @@ pub mod Straying
 pub mod Steadiness
 pub mod Sparing
 pub mod Tracing
+pub mod Slipping

@@ -2,3 +2,4 @@ pub mod Astray
 pub mod Closed
 pub mod Counted
 pub mod Touched
+pub mod Slipped

@@ -5,11 +5,13 @@
 mod places;
 mod progress;
 mod runs;
+mod slips;
 mod trace;
 mod watch;
 
 pub use places::closed;
 pub use progress::{Progress, Silent};
 pub use runs::run_changed;
+pub use slips::{SlipFound, SlipVerdict, Slipped, run_slipped};
 pub use trace::Trace;
 pub use watch::run_watched;

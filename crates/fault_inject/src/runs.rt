@@ -55,7 +55,7 @@ fn run_part(
 }
 
 /// Runs a machine from step `from` to step `to` in parts, and reports each part.
-fn run_on(
+pub(crate) fn run_on(
     machine: &mut Machine,
     from: u64,
     to: u64,

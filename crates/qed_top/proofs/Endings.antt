@@ -14,19 +14,21 @@ use Rattle.report.specs.Admission.{no_word_line}
 use Rattle.qed_top.specs.Answer.{PrintsOnly, FilesAfter, FilesInPart, StoreRose, IsFaultless, LoadRose, SteadyOrReadFault, limit_of, RoseAt, NoneFell}
 use Rattle.qed_top.specs.Refused.{ReadOn, not_read, read_on, admit_status, error_status, refusal_status, ElfFile}
 use Rattle.qed_top.specs.Makes.{IsMade, Delivers, TellsPlan}
-use Rattle.qed_top.specs.Run.{InMemory, InMemoryDecides, outcome_status, run_of, HasRun, FileRuns, Watches, unread_test, no_test, watched, RunsAs, default_options, Change, Outcome}
+use Rattle.qed_top.specs.Run.{InMemory, InMemoryDecides, outcome_status, ran, run_of, second_of, HasRun, FileRuns, Watches, unread_test, no_test, watched, RunsAs, jumps_line, astray_in_run, default_options, Change, Outcome, Watch}
+use Rattle.qed_words.specs.declared.orders.Watch.TheVariants as watch
+use Rattle.machine.specs.Progress.{Progress}
 use Rattle.qed_top.specs.List.{FileLists, IsPrinted}
 use Rattle.qed_top.specs.Asm.{Assembles, AsmDecides}
 use Rattle.qed_top.specs.Asm as asm
 use Rattle.qed_top.proofs.Assembling.{never_both}
-use Rattle.qed_top.specs.Campaign.{IsStruck, campaign_status}
+use Rattle.qed_top.specs.Campaign.{IsStruck, HasSlipped, campaign_status}
 use Rattle.qed_top.specs.Explain.{AreTold, TellsRoles, number_at, word_status, told_status}
 use Rattle.qed_top.specs.Gen.{Gens, GenDecides, test_bytes}
 use Rattle.qed_top.specs.Gen as gens
 use Rattle.transform.specs.declared.error.TransformError.TheVariants as transform
 use Rattle.transform.specs.declared.explained.Explained.{Explained}
 use Rattle.qed_top.specs.Loads.{Decided, LoadedFiles, OverLoads, Files, file_bytes}
-use Rattle.qed_top.specs.Orders.{AnswersOver, OrderCallsFor, WordsCallFor, listed_rest, source_limit, source_name, source_names, stored_name, Order, Transform, Plan, Explain, Run, Campaign, Gen, Asm, Harts, Tell, asked, Reason}
+use Rattle.qed_top.specs.Orders.{AnswersOver, OrderCallsFor, WordsCallFor, listed_rest, source_limit, source_name, source_names, stored_name, Order, Transform, Plan, Explain, Run, Campaign, Slips, Gen, Asm, Harts, Tell, asked, Reason}
 use Rattle.qed_top.specs.Ends.{Call, call_on, load_rose, store_rose, sink_rose, KeepsShelf, IsAnswered, EndsOver, Ends, ReadDecides, RunDecides, ran_status, DecidesOver, OrderDecides, Decides, NoFault, IsComplete}
 use Rattle.qed_top.specs.Ends as decide
 use Rattle.qed_top.specs.declared.answer.Answer.{Answer}
@@ -79,22 +81,25 @@ meant_later words loads rose later h answer m = words_later (asked words) loads 
 
 -- ---- the meant answer has a status with a text, and stores only the order's file
 runs_tells :
-    (bytes : List ℕ) (steps : ℕ) (changes : List Change) (jumps : List ℕ) (dump : Option (ℕ × ℕ)) (answer : Answer)
-    → ReadOn bytes (λ f. FileRuns f steps changes jumps dump answer) answer → Tells None answer
-runs_tells bytes steps changes jumps dump answer m =
-    let told : ElfFile → Type 0 = λ f. HasRun f steps changes jumps dump answer in
-    let outcome : ElfFile → Outcome = λ f. (run_of f steps changes).state.outcome in
+    (bytes : List ℕ) (ended : ElfFile → Progress) (second : ElfFile → List ℕ) (dump : Option (ℕ × ℕ)) (answer : Answer)
+    → ReadOn bytes (λ f. FileRuns f (ended f) (second f) dump answer) answer → Tells None answer
+runs_tells bytes ended second dump answer m =
+    let told : ElfFile → Type 0 = λ f. HasRun (ended f) (second f) dump answer in
+    let outcome : ElfFile → Outcome = λ f. (ended f).state.outcome in
     read_tells bytes (λ f. InMemory f (told f) answer) answer
     (λ f x. memory_tells f (told f) answer (λ p. tells (outcome_status (outcome f)) None answer (outcome_printed (outcome f)) p) x) m
 
 watches_tells : (bytes : List ℕ) (steps : ℕ) (changes : List Change) (dump : Option (ℕ × ℕ)) (answer : Answer) → Watches bytes steps changes dump answer → Tells None answer
 watches_tells bytes steps changes dump answer (unread_test u) = refusal_tells (error_status u.error) None answer (error_refuses u.error) u.plain
 watches_tells bytes steps changes dump answer (no_test u) = refusal_tells (admit_status u.error) None answer (admit_refuses u.error) u.plain
-watches_tells bytes steps changes dump answer (watched w) = runs_tells bytes steps changes _ dump answer (read_on w.file w.read w.runs)
+watches_tells bytes steps changes dump answer (watched w) = runs_tells bytes (λ f. run_of f steps changes) (λ f. jumps_line (astray_in_run w.file w.test steps changes)) dump answer (read_on w.file w.read w.runs)
 
-run_tells : (reached : Bool) (bytes : List ℕ) (steps : ℕ) (changes : List Change) (dump : Option (ℕ × ℕ)) (answer : Answer) → RunsAs reached bytes steps changes dump answer → Tells None answer
-run_tells false bytes steps changes dump answer m = runs_tells bytes steps changes [] dump answer m
-run_tells true bytes steps changes dump answer m = watches_tells bytes steps changes dump answer m
+run_tells : (look : Watch) (bytes : List ℕ) (steps : ℕ) (changes : List Change) (dump : Option (ℕ × ℕ)) (answer : Answer) → RunsAs look bytes steps changes dump answer → Tells None answer
+run_tells watch.Jumps bytes steps changes dump answer m = watches_tells bytes steps changes dump answer m
+run_tells watch.Nothing bytes steps changes dump answer m =
+    runs_tells bytes (λ f. run_of f steps changes) (λ f. []) dump answer m
+run_tells (watch.Slip at) bytes steps changes dump answer m =
+    runs_tells bytes (λ f. ran (watch.Slip at) f steps changes) (λ f. second_of (watch.Slip at) f None steps changes) dump answer m
 
 asm_tells : (text output : List ℕ) (answer : Answer) → Assembles text output answer → Tells (Some output) answer
 asm_tells text output answer (asm.faulty f) = tells Refused (Some output) answer tt f.plain
@@ -133,9 +138,11 @@ over_tells : (order : Order) (bytes : List ℕ) (answer : Answer) → AnswersOve
 over_tells (Transform input output o) bytes answer m = made_tells bytes o (IsMade bytes o (Delivers output) answer) (Some output) answer (λ x. stores_tells output x.file answer x.uses.status x.uses.stored) m
 over_tells (Plan input o) bytes answer m = made_tells bytes o (IsMade bytes o TellsPlan answer) None answer (λ x. tells Done None answer tt x.uses) m
 over_tells (Explain input o at) bytes answer m = made_tells bytes o (AreTold bytes o at answer) None answer (λ x. (code_told x.code at answer x.tells).1) m
-over_tells (Run file steps changes dump reached) bytes answer m = run_tells reached bytes steps changes dump answer m
+over_tells (Run file steps changes dump look) bytes answer m = run_tells look bytes steps changes dump answer m
 over_tells (Campaign input o draws results) bytes answer m =
     made_tells bytes o (IsStruck bytes o draws results answer) None answer (λ x. tells (campaign_status x.tells.trapped) None answer (trapped_printed x.tells.trapped) x.tells.plain) m
+over_tells (Slips input o draws results) bytes answer m =
+    made_tells bytes o (HasSlipped bytes o draws results answer) None answer (λ x. tells Done None answer tt x.tells.plain) m
 over_tells (Gen output seed size) bytes answer m = gens_tells output seed size answer m
 over_tells (order.List file) bytes answer m =
     read_tells bytes (λ f. FileLists f answer) answer (λ f x. memory_tells f (IsPrinted f answer) answer (λ p. tells Done None answer tt p.plain) x) m
@@ -179,26 +186,29 @@ steady_other Steady answer (inr plain) other = absurd (other plain.status)
 -- ---- what to expect
 -- the answer has the decided status
 runs_settled :
-    (bytes : List ℕ) (steps : ℕ) (changes : List Change) (jumps : List ℕ) (dump : Option (ℕ × ℕ)) (answer : Answer) (t : Status)
-    → ReadOn bytes (λ f. FileRuns f steps changes jumps dump answer) answer → ReadDecides bytes (ran_status steps changes) t → answer.status ≡ t
-runs_settled bytes steps changes jumps dump answer t m d =
-    let told : ElfFile → Type 0 = λ f. HasRun f steps changes jumps dump answer in
-    read_settled bytes (λ f. InMemory f (told f) answer) (λ f. InMemoryDecides f (ran_status steps changes f) t) answer t
-    (λ f x y. memory_settled f (told f) (ran_status steps changes f) answer t (λ p. p.status) x y) m d
+    (bytes : List ℕ) (ended : ElfFile → Progress) (second : ElfFile → List ℕ) (dump : Option (ℕ × ℕ)) (answer : Answer) (t : Status)
+    → ReadOn bytes (λ f. FileRuns f (ended f) (second f) dump answer) answer → ReadDecides bytes (λ f. outcome_status (ended f).state.outcome) t → answer.status ≡ t
+runs_settled bytes ended second dump answer t m d =
+    let told : ElfFile → Type 0 = λ f. HasRun (ended f) (second f) dump answer in
+    let status : ElfFile → Status = λ f. outcome_status (ended f).state.outcome in
+    read_settled bytes (λ f. InMemory f (told f) answer) (λ f. InMemoryDecides f (status f) t) answer t
+    (λ f x y. memory_settled f (told f) (status f) answer t (λ p. p.status) x y) m d
 
 run_settled :
-    (reached : Bool) (bytes : List ℕ) (steps : ℕ) (changes : List Change) (dump : Option (ℕ × ℕ)) (answer : Answer) (t : Status) → RunsAs reached bytes steps changes dump answer
-    → RunDecides reached bytes (ran_status steps changes) t → answer.status ≡ t
-run_settled false bytes steps changes dump answer t m d = runs_settled bytes steps changes [] dump answer t m d
-run_settled true bytes steps changes dump answer t (unread_test u) (decide.no_test e x b) = absurd (read_or_refused bytes x.file u.error x.read u.cause)
-run_settled true bytes steps changes dump answer t (unread_test u) (decide.as_run all r) = runs_settled bytes steps changes [] dump answer t (not_read u) r
-run_settled true bytes steps changes dump answer t (no_test u) (decide.no_test e x b) =
+    (look : Watch) (bytes : List ℕ) (steps : ℕ) (changes : List Change) (dump : Option (ℕ × ℕ)) (answer : Answer) (t : Status) → RunsAs look bytes steps changes dump answer
+    → RunDecides look bytes (ran_status look steps changes) t → answer.status ≡ t
+run_settled watch.Nothing bytes steps changes dump answer t m d = runs_settled bytes (λ f. run_of f steps changes) (λ f. []) dump answer t m d
+run_settled (watch.Slip at) bytes steps changes dump answer t m d =
+    runs_settled bytes (λ f. ran (watch.Slip at) f steps changes) (λ f. second_of (watch.Slip at) f None steps changes) dump answer t m d
+run_settled watch.Jumps bytes steps changes dump answer t (unread_test u) (decide.no_test e x b) = absurd (read_or_refused bytes x.file u.error x.read u.cause)
+run_settled watch.Jumps bytes steps changes dump answer t (unread_test u) (decide.as_run all r) = runs_settled bytes (λ f. run_of f steps changes) (λ f. []) dump answer t (not_read u) r
+run_settled watch.Jumps bytes steps changes dump answer t (no_test u) (decide.no_test e x b) =
     u.plain.status ∙ ap refusal_status (one_cause bytes default_options (transform.Admit u.error) (transform.Admit e) (λ m. absurd (cc)) (λ m. absurd (cc)) u.cause x) ∙ sym b
-run_settled true bytes steps changes dump answer t (no_test u) (decide.as_run all r) = absurd (not_refused u.cause.file default_options u.error (all u.cause.file u.cause.read) u.cause.refused)
-run_settled true bytes steps changes dump answer t (watched w) (decide.no_test e x b) =
+run_settled watch.Jumps bytes steps changes dump answer t (no_test u) (decide.as_run all r) = absurd (not_refused u.cause.file default_options u.error (all u.cause.file u.cause.read) u.cause.refused)
+run_settled watch.Jumps bytes steps changes dump answer t (watched w) (decide.no_test e x b) =
     let admitted = subst (λ g. IsAdmitted g default_options) (one_file bytes w.file x.file w.read.file x.read.file) w.admitted.admitted in
     absurd (not_refused x.file default_options e admitted x.refused)
-run_settled true bytes steps changes dump answer t (watched w) (decide.as_run all r) = runs_settled bytes steps changes _ dump answer t (read_on w.file w.read w.runs) r
+run_settled watch.Jumps bytes steps changes dump answer t (watched w) (decide.as_run all r) = runs_settled bytes (λ f. run_of f steps changes) (λ f. jumps_line (astray_in_run w.file w.test steps changes)) dump answer t (read_on w.file w.read w.runs) r
 
 code_is_no_memory : (n : ℕ) → transform.TooLarge limit.CodeBytes n ≡ transform.Memory → ⊥
 code_is_no_memory n e = absurd (cc)
@@ -226,10 +236,13 @@ over_settled (Plan input o) bytes answer t m d =
 over_settled (Explain input o at) bytes answer t m d =
     made_settled bytes o (AreTold bytes o at answer) _ answer t (λ x. transformable_of bytes o x.is.output x.is.plan x.is.made)
     (λ x h. (code_told x.code at answer x.tells).0 ∙ sym (h x.code x.is)) m d
-over_settled (Run file steps changes dump reached) bytes answer t m d = run_settled reached bytes steps changes dump answer t m d
+over_settled (Run file steps changes dump look) bytes answer t m d = run_settled look bytes steps changes dump answer t m d
 over_settled (Campaign input o draws results) bytes answer t m d =
     made_settled bytes o (IsStruck bytes o draws results answer) _ answer t (λ x. transformable_of bytes o x.made.output x.course.plan x.made.transforms)
     (λ x h. x.tells.plain.status ∙ sym (h x.course x.tells.struck x.tells.trapped x.made x.tells.carried_out)) m d
+over_settled (Slips input o draws results) bytes answer t m d =
+    made_settled bytes o (HasSlipped bytes o draws results answer) (t ≡ Done) answer t (λ x. transformable_of bytes o x.made.output x.course.plan x.made.transforms)
+    (λ x e. x.tells.plain.status ∙ sym e) m d
 over_settled (Gen output seed size) bytes answer t m d = gens_settled output seed size answer t m d
 over_settled (order.List file) bytes answer t m d =
     read_settled bytes (λ f. FileLists f answer) (λ f. InMemoryDecides f Done t) answer t

@@ -10,9 +10,12 @@ use Rattle.qed_words.specs.Text.Plan.{read_fault_line}
 use Rattle.machine.specs.Program.{start, zeros}
 use Rattle.machine.specs.Loading.{loaded_file, ElfFile}
 use Rattle.machine.specs.Progress.{Progress, first_state}
-use Rattle.fault_inject.specs.Astray.{first_astray}
+use Rattle.fault_inject.specs.Astray.{changed_run, first_astray}
 use Rattle.qed_top.specs.Answer.{PrintsOnly, CallsFor, read_fault, too_long, within, limit_of, limit_line}
-use Rattle.qed_top.specs.Run.{memory_bytes, memory_limit, outcome_status, run_of, FileRuns, is_reached_word, astray_in_run, run_text, Test, Change, Outcome}
+use Rattle.fault_inject.specs.Counted.{changed_steps}
+use Rattle.fault_inject.specs.Slipped.{slipped_run, slipped_steps}
+use Rattle.rv_step.specs.declared.slip.SlipAt.{SlipAt}
+use Rattle.qed_top.specs.Run.{memory_bytes, memory_limit, outcome_status, run_of, slipped_of, FileRuns, is_reached_word, astray_in_run, run_text, Test, Change, Outcome}
 use Rattle.qed_top.specs.Run as run
 use Rattle.qed_top.specs.Orders.{AnswersOver, IsUsage, OrderCallsFor, SourceCallsFor, WordsCallFor, reads_several, source_limit, source_name, Order, Harts, asked, Reason}
 use Rattle.qed_top.specs.Loads.{LoadedFiles, OverFiles, OverLoads, Files, file_bytes}
@@ -161,14 +164,31 @@ was_told f t steps changes reached machine astray same begins is =
     ∙ ap (λ m. first_astray reached m.state changes steps) begins
     ∙ ap (λ r. first_astray r (start (loaded_file f) zeros) changes steps) (λ i a. same a i)
 
+-- a machine at the start of a file was run with changes, and perhaps a slip
+pub has_run :
+    (f : ElfFile) (steps : ℕ) (changes : List Change) (begun ended : Progress) → begun ≡ first_state (start (loaded_file f) zeros)
+    → ended.state ≡ changed_run begun.state changes steps → ended.steps ≡ changed_steps begun changes steps → ended ≡ run_of f steps changes
+has_run f steps changes begun ended begins state made =
+    ap (λ s. record { state = s; steps = ended.steps }) state
+    ∙ ap (λ n. record { state = changed_run begun.state changes steps; steps = n }) made
+    ∙ ap (λ p. record { state = changed_run p.state changes steps; steps = changed_steps p changes steps }) begins
+
+pub has_slipped :
+    (f : ElfFile) (steps : ℕ) (changes : List Change) (at : SlipAt) (begun ended : Progress) → begun ≡ first_state (start (loaded_file f) zeros)
+    → ended.state ≡ slipped_run begun.state changes at steps → ended.steps ≡ slipped_steps begun changes at steps → ended ≡ slipped_of f steps changes at
+has_slipped f steps changes at begun ended begins state made =
+    ap (λ s. record { state = s; steps = ended.steps }) state
+    ∙ ap (λ n. record { state = slipped_run begun.state changes at steps; steps = n }) made
+    ∙ ap (λ p. record { state = slipped_run p.state changes at steps; steps = slipped_steps p changes at steps }) begins
+
 -- the machine of a small enough file was run
 pub was_run :
-    (f : ElfFile) (steps : ℕ) (changes : List Change) (jumps : List ℕ) (dump : Option (ℕ × ℕ)) (ended : Progress) (o : Outcome) (text : List ℕ) (s : Status) (answer : Answer)
-    → memory_bytes f.segments ≤ memory_limit → ended ≡ run_of f steps changes → o ≡ ended.state.outcome
-    → text ≡ run_text ended jumps dump → s ≡ outcome_status o → PrintsOnly s text answer → FileRuns f steps changes jumps dump answer
-was_run f steps changes jumps dump ended o text s answer small is how lines gives plain =
+    (f : ElfFile) (meant : Progress) (second : List ℕ) (dump : Option (ℕ × ℕ)) (ended : Progress) (o : Outcome) (text : List ℕ) (s : Status) (answer : Answer)
+    → memory_bytes f.segments ≤ memory_limit → ended ≡ meant → o ≡ ended.state.outcome
+    → text ≡ run_text ended second dump → s ≡ outcome_status o → PrintsOnly s text answer → FileRuns f meant second dump answer
+was_run f meant second dump ended o text s answer small is how lines gives plain =
     run.fits small (record {
       status = plain.status ∙ gives ∙ ap outcome_status (how ∙ ap (λ p. p.state.outcome) is);
-      text = plain.text ∙ lines ∙ ap (λ p. run_text p jumps dump) is;
+      text = plain.text ∙ lines ∙ ap (λ p. run_text p second dump) is;
       stored = plain.stored;
     })

@@ -6,10 +6,13 @@ use Rattle.qed_model.specs.declared.aim.Draws.{Draws}
 use Rattle.qed_model.specs.declared.change.Change.{Change}
 use Rattle.qed_model.specs.declared.verdict.Struck.{Struck}
 use Rattle.tests.specs.Admission.DataRanges.{range_of}
+use Rattle.fault_inject.specs.declared.slips.SlipFound.{SlipFound}
 use Rattle.qed_words.specs.Text.Campaign.{campaign_text}
+use Rattle.qed_words.specs.Text.Slips.{slips_text}
 use Rattle.campaign.specs.Draw.{drawn_strikes}
 use Rattle.campaign.specs.Kept.{IsReach}
 use Rattle.campaign.specs.Right.{rights}
+use Rattle.campaign.specs.Slips.{AreSlips}
 use Rattle.campaign.specs.Struck.{AreStruck}
 use Rattle.qed_top.specs.Answer.{PrintsOnly}
 use Rattle.qed_top.specs.Refused.{Makes, MakesDecides, Options}
@@ -63,3 +66,20 @@ CampaignDecides bytes o draws status =
     MakesDecides bytes o
     ((course : Prepared) (struck : List Struck) (trapped : Option ℕ)
     → IsCourse bytes o course → IsCarriedOut course draws struck trapped → status ≡ campaign_status trapped) status
+
+-- ---- `campaign --only slips`
+-- the slips that a seed draws were made, and the text about them is printed
+pub record TellsSlips (course : Prepared) (draws : Draws) (results : Bool) (answer : Answer) : Type 0 where
+  pub found : List SlipFound
+  pub slips : AreSlips course draws results found
+  pub plain : PrintsOnly Done (slips_text results found course.plan) answer
+
+-- the test was transformed, and its output slips
+pub record HasSlipped (bytes : List ℕ) (o : Options) (draws : Draws) (results : Bool) (answer : Answer) : Type 0 where
+  pub course : Prepared
+  pub made : IsCourse bytes o course
+  pub tells : TellsSlips course draws results answer
+
+-- the answer over the bytes of the file, which are within the limit
+abbrev pub SlipCampaigns : List ℕ → Options → Draws → Bool → Answer → Type 0
+SlipCampaigns bytes o draws results answer = Makes bytes o (HasSlipped bytes o draws results answer) answer

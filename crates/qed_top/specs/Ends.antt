@@ -10,13 +10,14 @@ use Rattle.tests.specs.Files.File.{IsReadAs}
 use Rattle.tests.specs.Admission.Refusals.{IsAdmitted}
 use Rattle.qed_top.specs.Answer.{FilesAfter, FilesInPart, StoreRose, ShelfSteady, limit_of, Rose, RoseAt}
 use Rattle.qed_top.specs.Refused.{MakesDecides, ReadOnDecides, admit_status, ElfFile, Options, IsNotAdmitted}
-use Rattle.qed_top.specs.Run.{InMemoryDecides, outcome_status, run_of, default_options, Change}
+use Rattle.qed_words.specs.declared.orders.Watch.TheVariants as watch
+use Rattle.qed_top.specs.Run.{InMemoryDecides, outcome_status, ran, default_options, Change, Watch}
 use Rattle.qed_top.specs.Asm.{AsmDecides}
 use Rattle.qed_top.specs.Campaign.{CampaignDecides}
 use Rattle.qed_top.specs.Explain.{ExplainDecides}
 use Rattle.qed_top.specs.Gen.{GenDecides}
 use Rattle.qed_top.specs.Loads.{Decided, LoadedFiles, OverLoads, Files, file_bytes}
-use Rattle.qed_top.specs.Orders.{WordsCallFor, source_name, source_names, source_limit, stored_name, Order, Transform, Plan, Explain, Run, Campaign, Gen, Asm}
+use Rattle.qed_top.specs.Orders.{WordsCallFor, source_name, source_names, source_limit, stored_name, Order, Transform, Plan, Explain, Run, Campaign, Slips, Gen, Asm}
 use Rattle.qed_top.specs.Orders.{Harts, Tell, asked}
 use Rattle.qed_top.specs.World.{FilesDecide}
 use Rattle.qed_top.specs.declared.answer.Answer.{Answer}
@@ -127,26 +128,27 @@ abbrev pub ReadDecides : List ℕ → (ElfFile → Status) → Status → Type 0
 ReadDecides bytes done status = ReadOnDecides bytes (λ f. InMemoryDecides f (done f) status) status
 
 -- the status that goes with the end of a run
-abbrev pub ran_status : ℕ → List Change → ElfFile → Status
-ran_status steps changes f = outcome_status (run_of f steps changes).state.outcome
+abbrev pub ran_status : Watch → ℕ → List Change → ElfFile → Status
+ran_status look steps changes f = outcome_status (ran look f steps changes).state.outcome
 
 -- the status of `run --reached`: that of the refusal for a file that is read but not admitted, else that of `run`
 pub data WatchDecides (bytes : List ℕ) (done : ElfFile → Status) (status : Status) : Type 0 where
   no_test : (e : AdmitError) → IsNotAdmitted bytes default_options e → status ≡ admit_status e → WatchDecides bytes done status
   as_run : ((f : ElfFile) → IsReadAs bytes f → IsAdmitted f default_options) → ReadDecides bytes done status → WatchDecides bytes done status
 
--- the status of `run`, with `--reached` or without
-abbrev pub RunDecides : Bool → List ℕ → (ElfFile → Status) → Status → Type 0
-RunDecides false bytes status_of status = ReadDecides bytes status_of status
-RunDecides true bytes status_of status = WatchDecides bytes status_of status
+-- the status of `run`, by what it looks for
+abbrev pub RunDecides : Watch → List ℕ → (ElfFile → Status) → Status → Type 0
+RunDecides watch.Jumps bytes status_of status = WatchDecides bytes status_of status
+RunDecides _ bytes status_of status = ReadDecides bytes status_of status
 
 -- the status of an order that reads no more than one file, over its bytes, which are within the limit
 abbrev pub DecidesOver : Order → List ℕ → Status → Type 0
 DecidesOver (Transform input output options) bytes status = TransformDecides bytes options status
 DecidesOver (Plan input options) bytes status = TransformDecides bytes options status
 DecidesOver (Explain input options at) bytes status = ExplainDecides bytes options at status
-DecidesOver (Run file steps changes dump reached) bytes status = RunDecides reached bytes (ran_status steps changes) status
+DecidesOver (Run file steps changes dump look) bytes status = RunDecides look bytes (ran_status look steps changes) status
 DecidesOver (Campaign input options draws results) bytes status = CampaignDecides bytes options draws status
+DecidesOver (Slips input options draws results) bytes status = TransformDecides bytes options status
 DecidesOver (Gen output seed size) bytes status = GenDecides seed size status
 DecidesOver (order.List file) bytes status = ReadDecides bytes (λ f. Done) status
 DecidesOver (Asm text output) bytes status = AsmDecides bytes status

@@ -4,7 +4,7 @@ use Rattle.machine.specs.declared.limits.Limit as limits
 use Rattle.machine.specs.declared.limits.Limit.TheVariants.{FileBytes, RunFileBytes}
 pub use Rattle.qed_words.specs.declared.orders.Order.{Order}
 use Rattle.qed_words.specs.declared.orders.Order.TheVariants as order
-pub use Rattle.qed_words.specs.declared.orders.Order.TheVariants.{Transform, Plan, Explain, Run, Campaign, Gen, Asm, Harts, Tell}
+pub use Rattle.qed_words.specs.declared.orders.Order.TheVariants.{Transform, Plan, Explain, Run, Campaign, Slips, Gen, Asm, Harts, Tell}
 pub use Rattle.qed_words.specs.declared.orders.Reason.{Reason}
 use Rattle.qed_words.specs.Text.Usage.{reason_line}
 pub use Rattle.qed_words.specs.Words.{asked}
@@ -12,7 +12,7 @@ use Rattle.report.specs.Told.{told_text}
 use Rattle.qed_top.specs.Answer.{PrintsOnly, CallsFor}
 use Rattle.qed_top.specs.List.{Lists}
 use Rattle.qed_top.specs.Asm.{Assembles}
-use Rattle.qed_top.specs.Campaign.{Campaigns}
+use Rattle.qed_top.specs.Campaign.{Campaigns, SlipCampaigns}
 use Rattle.qed_top.specs.Explain.{Explains}
 use Rattle.qed_top.specs.Gen.{Gens}
 use Rattle.qed_top.specs.Makes.{MakesOutput, Delivers, TellsPlan}
@@ -28,8 +28,9 @@ abbrev pub source_name : Order → Option (List ℕ)
 source_name (Transform input output options) = Some input
 source_name (Plan input options) = Some input
 source_name (Explain input options at) = Some input
-source_name (Run file steps changes dump reached) = Some file
+source_name (Run file steps changes dump look) = Some file
 source_name (Campaign input options draws results) = Some input
+source_name (Slips input options draws results) = Some input
 source_name (order.List file) = Some file
 source_name (Asm text output) = Some text
 source_name _ = None
@@ -50,7 +51,7 @@ reads_several _ = false
 
 -- the limit on the bytes of an order's file
 abbrev pub source_limit : Order → limits.Limit
-source_limit (Run file steps changes dump reached) = RunFileBytes
+source_limit (Run file steps changes dump look) = RunFileBytes
 source_limit (order.List file) = RunFileBytes
 source_limit _ = FileBytes
 
@@ -71,8 +72,9 @@ abbrev pub AnswersOver : Order → List ℕ → Answer → Type 0
 AnswersOver (Transform input output options) bytes answer = MakesOutput bytes options (Delivers output) answer
 AnswersOver (Plan input options) bytes answer = MakesOutput bytes options TellsPlan answer
 AnswersOver (Explain input options at) bytes answer = Explains bytes options at answer
-AnswersOver (Run file steps changes dump reached) bytes answer = RunsAs reached bytes steps changes dump answer
+AnswersOver (Run file steps changes dump look) bytes answer = RunsAs look bytes steps changes dump answer
 AnswersOver (Campaign input options draws results) bytes answer = Campaigns bytes options draws results answer
+AnswersOver (Slips input options draws results) bytes answer = SlipCampaigns bytes options draws results answer
 AnswersOver (Gen output seed size) bytes answer = Gens output seed size answer
 AnswersOver (order.List file) bytes answer = Lists bytes answer
 AnswersOver (Asm text output) bytes answer = Assembles bytes output answer

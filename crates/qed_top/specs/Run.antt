@@ -4,6 +4,7 @@ use Rattle.std.specs.List.{list_any}
 use Rattle.elf_types.specs.Abi.{is_load}
 use Rattle.fault_inject.specs.Astray.{first_astray}
 use Rattle.fault_inject.specs.Counted.{changed_steps}
+use Rattle.fault_inject.specs.Slipped.{slipped_run, slipped_steps, what_slipped}
 pub use Rattle.qed_model.specs.declared.change.Change.{Change}
 use Rattle.machine.specs.declared.limits.Limit.TheVariants as limit
 pub use Rattle.machine.specs.declared.outcome.Outcome.{Outcome}
@@ -16,7 +17,10 @@ use Rattle.machine.specs.Program.{start, zeros}
 use Rattle.machine.specs.Progress.{Progress, first_state}
 pub use Rattle.tests.specs.Options.{default_options}
 use Rattle.qed_model.specs.Promise.Changed.{changed_run}
-pub use Rattle.qed_words.specs.Text.Run.{jumps_line, run_text}
+pub use Rattle.qed_words.specs.declared.orders.Watch.{Watch}
+use Rattle.qed_words.specs.declared.orders.Watch.TheVariants as watch
+pub use Rattle.qed_words.specs.Text.Run.{jumps_line, slipped_line, run_text}
+use Rattle.rv_step.specs.declared.slip.SlipAt.{SlipAt}
 use Rattle.qed_top.specs.Answer.{PrintsOnly, limit_of, limit_line}
 use Rattle.test_admission.specs.Admit.{IsAdmittedAs}
 use Rattle.qed_top.specs.Refused.{IsUnadmitted, IsUnread, ReadOn}
@@ -40,6 +44,18 @@ run_of file steps changes = record {
   steps = changed_steps (first_state (start (loaded_file file) zeros)) changes steps;
 }
 
+-- such a run with a slip
+abbrev pub slipped_of : ElfFile → ℕ → List Change → SlipAt → Progress
+slipped_of file steps changes at = record {
+  state = slipped_run (start (loaded_file file) zeros) changes at steps;
+  steps = slipped_steps (first_state (start (loaded_file file) zeros)) changes at steps;
+}
+
+-- the run, by what it looks for
+abbrev pub ran : Watch → ElfFile → ℕ → List Change → Progress
+ran (watch.Slip at) file steps changes = slipped_of file steps changes at
+ran _ file steps changes = run_of file steps changes
+
 -- the status that goes with the end of a run
 abbrev pub outcome_status : Outcome → Status
 outcome_status outcome.Ended = Done
@@ -62,19 +78,14 @@ pub data InMemoryDecides (f : ElfFile) (done status : Status) : Type 0 where
   is_too_large : memory_limit < memory_bytes f.segments → status ≡ Limit → InMemoryDecides f done status
   is_within : memory_bytes f.segments ≤ memory_limit → status ≡ done → InMemoryDecides f done status
 
--- a file is run, and a text about its jumps, which may be empty, is printed too
-abbrev pub HasRun : ElfFile → ℕ → List Change → List ℕ → Option (ℕ × ℕ) → Answer → Type 0
-HasRun f steps changes jumps dump answer =
-    PrintsOnly (outcome_status (run_of f steps changes).state.outcome) (run_text (run_of f steps changes) jumps dump) answer
+-- a file has run so, and a second line, which may be empty, is printed too
+abbrev pub HasRun : Progress → List ℕ → Option (ℕ × ℕ) → Answer → Type 0
+HasRun ended second dump answer = PrintsOnly (outcome_status ended.state.outcome) (run_text ended second dump) answer
 
-abbrev pub FileRuns : ElfFile → ℕ → List Change → List ℕ → Option (ℕ × ℕ) → Answer → Type 0
-FileRuns f steps changes jumps dump answer = InMemory f (HasRun f steps changes jumps dump answer) answer
+abbrev pub FileRuns : ElfFile → Progress → List ℕ → Option (ℕ × ℕ) → Answer → Type 0
+FileRuns f ended second dump answer = InMemory f (HasRun ended second dump answer) answer
 
--- the answer over the bytes of the file, which are within the limit
-abbrev pub Runs : List ℕ → ℕ → List Change → Option (ℕ × ℕ) → Answer → Type 0
-Runs bytes steps changes dump answer = ReadOn bytes (λ f. FileRuns f steps changes [] dump answer) answer
-
--- ---- `run --reached`
+-- ---- the second line
 -- a code word of the test stands at the address, and the address is reached
 abbrev pub is_reached_word : ElfFile → Test → ℕ → Bool
 is_reached_word f t a = list_any (λ c. (c.at == a) && is_reached f t c.at) t.code
@@ -88,21 +99,31 @@ abbrev pub jumps_of : ElfFile → Option Test → ℕ → List Change → List �
 jumps_of f None steps changes = []
 jumps_of f (Some t) steps changes = jumps_line (astray_in_run f t steps changes)
 
+-- by what the run looks for
+abbrev pub second_of : Watch → ElfFile → Option Test → ℕ → List Change → List ℕ
+second_of watch.Nothing f t steps changes = []
+second_of watch.Jumps f t steps changes = jumps_of f t steps changes
+second_of (watch.Slip at) f t steps changes = slipped_line (what_slipped (start (loaded_file f) zeros) changes at steps)
+
+-- ---- the answer over the bytes of the file, which are within the limit
+-- of any file that is read
+abbrev pub Runs : Watch → List ℕ → ℕ → List Change → Option (ℕ × ℕ) → Answer → Type 0
+Runs look bytes steps changes dump answer = ReadOn bytes (λ f. FileRuns f (ran look f steps changes) (second_of look f None steps changes) dump answer) answer
+
 -- the file is read, and is a test by the rules of `transform` without options; the text covers its indirect jumps
 pub record IsWatched (bytes : List ℕ) (steps : ℕ) (changes : List Change) (dump : Option (ℕ × ℕ)) (answer : Answer) : Type 0 where
   pub file : ElfFile
   pub read : IsReadAs bytes file
   pub test : Test
   pub admitted : IsAdmittedAs file default_options test
-  pub runs : FileRuns file steps changes (jumps_line (astray_in_run file test steps changes)) dump answer
+  pub runs : FileRuns file (run_of file steps changes) (jumps_line (astray_in_run file test steps changes)) dump answer
 
--- the answer over the bytes of the file, which are within the limit; what is not a test is refused as by `transform`
+-- of `run --reached`; what is not a test is refused as by `transform`
 pub data Watches (bytes : List ℕ) (steps : ℕ) (changes : List Change) (dump : Option (ℕ × ℕ)) (answer : Answer) : Type 0 where
   unread_test : IsUnread bytes answer → Watches bytes steps changes dump answer
   no_test : IsUnadmitted bytes default_options answer → Watches bytes steps changes dump answer
   watched : IsWatched bytes steps changes dump answer → Watches bytes steps changes dump answer
 
--- ---- `run`, with `--reached` or without
-abbrev pub RunsAs : Bool → List ℕ → ℕ → List Change → Option (ℕ × ℕ) → Answer → Type 0
-RunsAs false bytes steps changes dump answer = Runs bytes steps changes dump answer
-RunsAs true bytes steps changes dump answer = Watches bytes steps changes dump answer
+abbrev pub RunsAs : Watch → List ℕ → ℕ → List Change → Option (ℕ × ℕ) → Answer → Type 0
+RunsAs watch.Jumps bytes steps changes dump answer = Watches bytes steps changes dump answer
+RunsAs look bytes steps changes dump answer = Runs look bytes steps changes dump answer

@@ -2,7 +2,7 @@
 ghost use Rattle.std.specs.Prelude.{◌≡◌, All, IfOk};
 ghost use Rattle.qed_model.specs.Promise.Changed.{Ordered};
 ghost use Rattle.qed_model.specs.Weave.SoundOptions.{AreSoundOptions};
-ghost use Rattle.qed_top.specs.Campaign.{campaign_status, strikes_text_of as text_of_campaign, Campaigns, TellsCampaign};
+ghost use Rattle.qed_top.specs.Campaign.{campaign_status, strikes_text_of as text_of_campaign, Campaigns, SlipCampaigns, TellsCampaign, TellsSlips};
 
 use crate::answer::{Answer, plain};
 use crate::refusal::refused;
@@ -10,7 +10,7 @@ use crate::status::Status;
 use campaign::{Campaign, Course, Progress};
 use elf_types::Bytes;
 use qed_model::{Draws, Options};
-use report::campaign_text;
+use report::{campaign_text, slips_text};
 use std::alloc::{AllocError, Global};
 
 /// A campaign's request: its strikes, and whether to print which ends are right.
@@ -71,6 +71,20 @@ fn strike(
     Ok(plain(status_of(campaign.trapped), text))
 }
 
+/// What `campaign --only slips` answers for a transformed test.
+fn slip(
+    alloc: Global,
+    course: &Course,
+    asked: &Asked,
+    progress: &mut dyn Progress,
+) -> Result<Answer, AllocError>
+    ensures { IfOk result (TellsSlips course.now asked.now.draws asked.now.results) }
+{
+    let found = course.slips(alloc, &asked.draws, asked.results, progress)?;
+    let text = slips_text(alloc, &found, course.plan(), asked.results)?;
+    Ok(plain(Status::Done, text))
+}
+
 /// What `campaign` answers over the bytes of its input.
 pub fn answer_campaign(
     alloc: Global,
@@ -84,6 +98,23 @@ pub fn answer_campaign(
 {
     match Course::prepare(alloc, bytes, options) {
         Ok(course) => Ok(strike(alloc, &course, asked, progress)?),
+        Err(error) => Ok(refused(alloc, &error)?),
+    }
+}
+
+/// What `campaign --only slips` answers over the bytes of its input.
+pub fn answer_slips(
+    alloc: Global,
+    bytes: &[u8],
+    options: &Options,
+    asked: &Asked,
+    progress: &mut dyn Progress,
+) -> Result<Answer, AllocError>
+    requires { AreSoundOptions options.now }
+    ensures { IfOk result (SlipCampaigns bytes.now options.now asked.now.draws asked.now.results) }
+{
+    match Course::prepare(alloc, bytes, options) {
+        Ok(course) => Ok(slip(alloc, &course, asked, progress)?),
         Err(error) => Ok(refused(alloc, &error)?),
     }
 }

@@ -7,7 +7,7 @@ ghost use Rattle.qed_top.specs.Orders.{AnswersOver, IsUsage, reads_several, sour
 
 use crate::answer::{Answer, plain};
 use crate::asm::answer_asm;
-use crate::campaigns::{Asked, answer_campaign};
+use crate::campaigns::{Asked, answer_campaign, answer_slips};
 use crate::explained::answer_explain;
 use crate::generated::answer_gen;
 use crate::list::answer_list;
@@ -31,6 +31,7 @@ pub fn source_name(order: &Order) -> Option<&str>
         Order::Explain(input, _, _) => Some(input.as_str()),
         Order::Run(file, _, _, _, _) => Some(file.as_str()),
         Order::Campaign(input, _, _, _) => Some(input.as_str()),
+        Order::Slips(input, _, _, _) => Some(input.as_str()),
         Order::Gen(_, _, _) => None,
         Order::List(file) => Some(file.as_str()),
         Order::Asm(text, _) => Some(text.as_str()),
@@ -80,14 +81,15 @@ pub fn answer_order(
         Order::Explain(_, options, at) => {
             Ok(answer_explain(alloc, bytes.as_slice(), &options, at)?)
         }
-        Order::Run(_, steps, changes, dump, reached) => {
+        Order::Run(_, steps, changes, dump, watch) => {
             let shared = bytes.into_shared(alloc)?;
             let way = Way {
                 steps,
                 changes,
                 dump,
+                watch,
             };
-            Ok(answer_run(alloc, &shared, &way, reached, progress)?)
+            Ok(answer_run(alloc, &shared, &way, progress)?)
         }
         Order::Gen(output, seed, size) => Ok(answer_gen(alloc, output, seed, size)?),
         Order::List(_) => Ok(answer_list(alloc, bytes.as_slice())?),
@@ -95,6 +97,10 @@ pub fn answer_order(
         Order::Campaign(_, options, draws, results) => {
             let asked = Asked { draws, results };
             Ok(answer_campaign(alloc, bytes.as_slice(), &options, &asked, progress)?)
+        }
+        Order::Slips(_, options, draws, results) => {
+            let asked = Asked { draws, results };
+            Ok(answer_slips(alloc, bytes.as_slice(), &options, &asked, progress)?)
         }
         Order::Tell(topic) => {
             let text = told_text(alloc, topic)?;

@@ -6,7 +6,7 @@ ghost use Rattle.flow_recovery.specs.Sets.{lists, Adds};
 ghost use Rattle.machine.specs.Loading.{load_segments};
 ghost use Rattle.machine.specs.Apart.{AllFitMemory, AreApart};
 ghost use Rattle.qed_model.specs.Promise.Changed.{Ordered};
-ghost use Rattle.qed_top.specs.Run.{FileRuns, IsAboveMemory, RunsAs, is_reached_word, jumps_of, memory_bytes, memory_limit, outcome_status, run_of};
+ghost use Rattle.qed_top.specs.Run.{FileRuns, IsAboveMemory, RunsAs, is_reached_word, memory_bytes, memory_limit, outcome_status, ran as ran_of, second_of};
 ghost use Rattle.qed_words.specs.Sound.{IsSoundRun};
 
 use crate::answer::{Answer, above_limit, plain};
@@ -14,23 +14,25 @@ use crate::refusal::{not_admitted, unread};
 use crate::status::Status;
 use elf_read::read_shared;
 use elf_types::{ElfFile, Segment, Shared};
-use fault_inject::{Progress, run_changed, run_watched};
+use fault_inject::{Progress, run_changed, run_slipped, run_watched};
 use flow_recovery::reached;
 use qed_model::limits::MAX_MEMORY_BYTES;
 use qed_model::{Changes, CodeWord, Limit, Options, Outcome, Test};
-use report::{jumps_text, run_text};
+use qed_words::Watch;
+use report::{jumps_text, run_text, slipped_text};
 use rv_step::Machine;
 use std::alloc::{AllocError, Global};
 use std::collections::BTreeSet;
 use test_admission::admit;
 
-/// How to run a file: the most steps, the changes in the order of their steps, and the address and
-/// length of the dump in bytes.
+/// How to run a file: the most steps, the changes in the order of their steps, the address and
+/// length of the dump in bytes, and what to look for.
 #[derive(Debug, Drop)]
 pub struct Way {
     pub steps: u64,
     pub changes: Changes,
     pub dump: Option<(u64, u64)>,
+    pub watch: Watch,
 }
 
 /// The memory sizes of the PT_LOAD segments together, in bytes.
@@ -103,7 +105,8 @@ fn reached_words(alloc: Global, test: &Test, file: &ElfFile) -> Result<BTreeSet<
     Ok(set)
 }
 
-/// A machine run from the start of a file, and for a test the text about its indirect jumps.
+/// A machine run from the start of a file, and the second line about the run; empty where the run looks for indirect
+/// jumps and there is no test.
 fn run_machine(
     alloc: Global,
     file: &ElfFile,
@@ -114,26 +117,36 @@ fn run_machine(
     requires fit { AllFitMemory (load_segments file.now.segments) }
     requires apart { AreApart (load_segments file.now.segments) }
     requires sound { Ordered way.now.changes }
-    ensures run { IfOk result (λ ran. ran.0 ≡ run_of file.now way.now.steps way.now.changes) }
-    ensures jumps { IfOk result (λ ran. string_bytes ran.1 ≡ jumps_of file.now (option_copied test.entry) way.now.steps way.now.changes) }
+    ensures run { IfOk result (λ ran. ran.0 ≡ ran_of way.now.watch file.now way.now.steps way.now.changes) }
+    ensures second { IfOk result (λ ran. string_bytes ran.1 ≡ second_of way.now.watch file.now (option_copied test.entry) way.now.steps way.now.changes) }
 {
     let mut machine = Machine::start(alloc, file, &[0; 32])?;
     let changes = way.changes.as_slice();
-    match test {
-        Some(test) => {
-            let reached = reached_words(alloc, test, file)?;
-            let astray = run_watched(&mut machine, changes, way.steps, &reached, progress)?;
-            let jumps = jumps_text(alloc, astray)?;
-            Ok((machine, jumps))
-        }
-        None => {
-            run_changed(&mut machine, changes, way.steps, progress)?;
+    let steps = way.steps;
+    match way.watch {
+        Watch::Nothing => {
+            run_changed(&mut machine, changes, steps, progress)?;
             Ok((machine, String::new(alloc)))
+        }
+        Watch::Slip(at) => {
+            let slipped = run_slipped(&mut machine, changes, &at, steps, progress)?;
+            let line = slipped_text(alloc, slipped)?;
+            Ok((machine, line))
+        }
+        Watch::Jumps => {
+            let Some(test) = test else {
+                run_changed(&mut machine, changes, steps, progress)?;
+                return Ok((machine, String::new(alloc)));
+            };
+            let reached = reached_words(alloc, test, file)?;
+            let astray = run_watched(&mut machine, changes, steps, &reached, progress)?;
+            let line = jumps_text(alloc, astray)?;
+            Ok((machine, line))
         }
     }
 }
 
-/// What `run` answers for a file that was read; for a test with a line about its indirect jumps.
+/// What `run` answers for a file that was read, and a test where it looks for indirect jumps.
 fn answer_file(
     alloc: Global,
     file: &ElfFile,
@@ -144,8 +157,8 @@ fn answer_file(
     requires fit { AllFitMemory (load_segments file.now.segments) }
     requires apart { AreApart (load_segments file.now.segments) }
     requires sound { IsSoundRun way.now.steps way.now.changes way.now.dump }
-    ensures { IfOk result (FileRuns file.now way.now.steps way.now.changes
-        (jumps_of file.now (option_copied test.entry) way.now.steps way.now.changes) way.now.dump) }
+    ensures { IfOk result (FileRuns file.now (ran_of way.now.watch file.now way.now.steps way.now.changes)
+        (second_of way.now.watch file.now (option_copied test.entry) way.now.steps way.now.changes) way.now.dump) }
 {
     if let Some(answer) = above_memory(alloc, file)? {
         return Ok(answer);
@@ -155,26 +168,26 @@ fn answer_file(
     Ok(plain(status_of(ran.0.outcome()), text))
 }
 
-/// What `run` answers over the bytes of its file, on demand with a line about its indirect jumps.
+/// What `run` answers over the bytes of its file; to look for indirect jumps, the file must be a test.
 pub fn answer_run(
     alloc: Global,
     bytes: &Shared,
     way: &Way,
-    reached: bool,
     progress: &mut dyn Progress,
 ) -> Result<Answer, AllocError>
     requires { IsSoundRun way.now.steps way.now.changes way.now.dump }
-    ensures { IfOk result (RunsAs reached bytes.now way.now.steps way.now.changes way.now.dump) }
+    ensures { IfOk result (RunsAs way.now.watch bytes.now way.now.steps way.now.changes way.now.dump) }
 {
     let file = match read_shared(alloc, bytes) {
         Ok(file) => file,
         Err(error) => return Ok(unread(alloc, error)?),
     };
-    if !reached {
-        return Ok(answer_file(alloc, &file, None, way, progress)?);
-    }
-    match admit(alloc, &file, &Options::default()) {
-        Ok(test) => Ok(answer_file(alloc, &file, Some(&test), way, progress)?),
-        Err(rule) => Ok(not_admitted(alloc, &rule)?),
+    match way.watch {
+        Watch::Nothing => Ok(answer_file(alloc, &file, None, way, progress)?),
+        Watch::Slip(_) => Ok(answer_file(alloc, &file, None, way, progress)?),
+        Watch::Jumps => match admit(alloc, &file, &Options::default()) {
+            Ok(test) => Ok(answer_file(alloc, &file, Some(&test), way, progress)?),
+            Err(rule) => Ok(not_admitted(alloc, &rule)?),
+        },
     }
 }

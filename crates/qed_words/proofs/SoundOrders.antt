@@ -1,5 +1,5 @@
 -- The order that words ask for is sound.
-use Rattle.std.proofs.Common.{◌≡◌, ℕ, ◌+◌, ◌*◌, ◌/◌, ◌%◌, ◌^◌, ◌≤◌, ◌<◌, nat_lt, nat_le, min, Bool, true, false, cond, List, [], ◌∷◌, map, length, refl, sym, subst, arith, ◌&&◌, ◌==◌, ◌∙◌}
+use Rattle.std.proofs.Common.{◌≡◌, ℕ, ◌+◌, ◌*◌, ◌/◌, ◌%◌, ◌^◌, ◌≤◌, ◌<◌, nat_lt, nat_le, min, Bool, true, false, cond, List, [], ◌∷◌, map, length, refl, sym, subst, arith, ◌&&◌, ◌==◌, ◌∙◌, not}
 use Rattle.std.proofs.lemmas.Bool.Decides.{nat_tests}
 use Rattle.std.proofs.lemmas.List.{length-map}
 use Rattle.std.specs.Prelude.{Option, Some, None, IfSome, IsSomeAnd, unwrap_or, option_and_then, slice_get, find, filter_map, option_map, if◌then◌else◌, Ok, All}
@@ -24,7 +24,7 @@ use Rattle.tests.specs.declared.options.Options.{Options}
 use Rattle.tests.specs.declared.options.Entries.{Entries}
 use Rattle.tests.specs.declared.options.Entries.TheVariants as entry
 use Rattle.qed_words.specs.Tables.{option_of, weave, command_row_of, command_of}
-use Rattle.qed_words.specs.Words.{Argument, asked, asked_of, answer, fault, first_wrong, span_in, arguments, dump, files, first_reason, first_wrong_value, is_in_range, lacks, missing, number_given, lean_options, usual_options, options, order_of, reason_of, span_of, split_reason, missing_lean, most_block_steps, misfit, lean_reason, window_reason, topic_reason, value_of, values, wrong_number, wrong_value, wrong_values, changes_given, draws, is_digit, steps_given, turns, wrong_turns}
+use Rattle.qed_words.specs.Words.{Argument, asked, asked_of, answer, fault, first_wrong, span_in, arguments, dump, files, first_reason, first_wrong_value, is_in_range, lacks, missing, number_given, lean_options, usual_options, options, order_of, reason_of, span_of, split_reason, missing_lean, most_block_steps, misfit, lean_reason, window_reason, topic_reason, watch_reason, slips_reason, is_slips, campaign_of, file, value_of, values, wrong_number, wrong_value, wrong_values, changes_given, draws, is_digit, steps_given, turns, wrong_turns}
 use Rattle.texts.specs.Read.{colon, parted, parsed_number}
 use Rattle.qed_model.proofs.Lemmas.{in_order_ordered}
 use Rattle.qed_words.specs.Sound.{IsSoundOrder}
@@ -228,8 +228,8 @@ record IsFaultless (command : Command) (given : List Argument) : Type 0 where
 faultless : (command : Command) (given : List Argument) → reason_of command given ≡ None → IsFaultless command given
 unfolding reason_of first_wrong_value
 faultless command given e =
-    let all : AllNone (first_wrong command [] given ∷ missing command given ∷ first_wrong_value command given ∷ split_reason given ∷ missing_lean given ∷ lean_reason given ∷ window_reason given ∷ topic_reason command given ∷ [])
-    = no_reason (first_wrong command [] given ∷ missing command given ∷ first_wrong_value command given ∷ split_reason given ∷ missing_lean given ∷ lean_reason given ∷ window_reason given ∷ topic_reason command given ∷ []) e in
+    let all : AllNone (first_wrong command [] given ∷ missing command given ∷ first_wrong_value command given ∷ split_reason given ∷ missing_lean given ∷ lean_reason given ∷ window_reason given ∷ watch_reason given ∷ slips_reason given ∷ topic_reason command given ∷ [])
+    = no_reason (first_wrong command [] given ∷ missing command given ∷ first_wrong_value command given ∷ split_reason given ∷ missing_lean given ∷ lean_reason given ∷ window_reason given ∷ watch_reason given ∷ slips_reason given ∷ topic_reason command given ∷ []) e in
     record { words = all.0; there = all.1.0; values = no_reason (map (wrong_values given) (command_row_of command).keys) all.1.1.0; room = all.1.1.1.0; lean = all.1.1.1.1.1.0 }
 
 files_there : (count : ℕ) (other : Option Reason) → (if nat_lt count 1 then Some MissingFile else other) ≡ None → 1 ≤ count
@@ -278,6 +278,19 @@ schedule_parts : (count : ℕ) (harts : Option (List ℕ)) → IfSome harts (IsS
 schedule_parts count None fits = (tt, tt)
 schedule_parts count (Some harts) fits = (fits.some, fits.below)
 
+campaign_sound : (given : List Argument) → IsFaultless Campaign given → (slips : Bool) → IsSoundOrder (campaign_of slips (file given 0) (options given) (draws given) (not (lacks given Results)))
+unfolding missing draws wrong_value
+campaign_sound given f slips =
+    let there : (lacks given Seed ≡ false) × (lacks given Count ≡ false) = both_there given Seed Count _ f.there in
+    let fit : AreSoundOptions (options given) = options_fit (Seed ∷ Count ∷ Changes ∷ Only ∷ From ∷ To ∷ Results ∷ []) given f.values f.room f.lean in
+    let count : (1 ≤ (draws given).count) × ((draws given).count ≤ 10000) = there_in_range 1 10000 0 (number_given Count given) (number_there_fits Count given (λ _ _. refl) there.1 f.values.1.1.1.1.1.1.1.1.1.1.1.0) in
+    let changes : (1 ≤ (draws given).changes) × ((draws given).changes ≤ 16) = in_range 1 16 1 (number_given Changes given) (number_given_fits Changes given (λ _ _. refl) f.values.1.1.1.1.1.1.1.1.1.1.1.1.0) (omega arith, omega arith) in
+    either slips fit count changes where
+      either : (slips : Bool) → AreSoundOptions (options given) → (1 ≤ (draws given).count) × ((draws given).count ≤ 10000) → (1 ≤ (draws given).changes) × ((draws given).changes ≤ 16)
+          → IsSoundOrder (campaign_of slips (file given 0) (options given) (draws given) (not (lacks given Results)))
+      either true fit count changes = (fit, count)
+      either false fit count changes = (fit, count, changes)
+
 order_sound : (command : Command) (given : List Argument) → IsFaultless command given → IsSoundOrder (order_of command given)
 unfolding order_of wrong_value missing draws
 order_sound Transform given f = options_fit [] given f.values f.room f.lean
@@ -288,12 +301,7 @@ order_sound Run given f = record {
   ordered = changes_ordered given;
   shown = dump_fits (value_of Dump given);
 }
-order_sound Campaign given f =
-    let there : (lacks given Seed ≡ false) × (lacks given Count ≡ false) = both_there given Seed Count _ f.there in (
-      options_fit (Seed ∷ Count ∷ Changes ∷ Only ∷ From ∷ To ∷ Results ∷ []) given f.values f.room f.lean,
-      there_in_range 1 10000 0 (number_given Count given) (number_there_fits Count given (λ _ _. refl) there.1 f.values.1.1.1.1.1.1.1.1.1.1.1.0),
-      in_range 1 16 1 (number_given Changes given) (number_given_fits Changes given (λ _ _. refl) f.values.1.1.1.1.1.1.1.1.1.1.1.1.0) (omega arith, omega arith),
-    )
+order_sound Campaign given f = campaign_sound given f (is_slips given)
 order_sound Gen given f =
     let there : (lacks given Seed ≡ false) × (lacks given Size ≡ false) = both_there given Seed Size _ f.there in
     there_in_range 1 60000 0 (number_given Size given) (number_there_fits Size given (λ _ _. refl) there.1 f.values.1.0)

@@ -3,7 +3,7 @@ use Rattle.std.specs.Prelude.{ℕ, ◌+◌, ◌^◌, ◌≤◌, ◌<◌, List, O
 use Rattle.qed_model.specs.declared.change.Change.{Change}
 use Rattle.qed_words.specs.declared.orders.Order.{Order}
 use Rattle.qed_words.specs.declared.orders.Order.TheVariants as order
-use Rattle.qed_words.specs.declared.orders.Order.TheVariants.{Transform, Plan, Explain, Run, Campaign, Gen, Asm, Harts, Tell}
+use Rattle.qed_words.specs.declared.orders.Order.TheVariants.{Transform, Plan, Explain, Run, Campaign, Slips, Gen, Asm, Harts, Tell}
 use Rattle.qed_model.specs.Promise.Changed.{Ordered}
 use Rattle.qed_model.specs.Weave.SoundOptions.{AreSoundOptions}
 
@@ -25,9 +25,10 @@ abbrev pub IsSoundOrder : Order → Type 0
 IsSoundOrder (Transform input output options) = AreSoundOptions options
 IsSoundOrder (Plan input options) = AreSoundOptions options
 IsSoundOrder (Explain input options at) = AreSoundOptions options
-IsSoundOrder (Run file steps changes dump reached) = IsSoundRun steps changes dump
+IsSoundOrder (Run file steps changes dump watch) = IsSoundRun steps changes dump
 IsSoundOrder (Campaign input options draws results) =
     AreSoundOptions options × ((1 ≤ draws.count) × (draws.count ≤ 10000)) × ((1 ≤ draws.changes) × (draws.changes ≤ 16))
+IsSoundOrder (Slips input options draws results) = AreSoundOptions options × ((1 ≤ draws.count) × (draws.count ≤ 10000))
 IsSoundOrder (Gen output seed size) = (1 ≤ size) × (size ≤ 60000)
 IsSoundOrder (order.List file) = Unit {0}
 IsSoundOrder (Asm text output) = Unit {0}

@@ -7,7 +7,7 @@ use Rattle.qed_words.specs.declared.orders.Command.{Command}
 use Rattle.qed_words.specs.declared.orders.Command.TheVariants.{Transform, Plan, Explain, Run, Campaign, Gen, Asm, Harts, Help, Version}
 use Rattle.qed_words.specs.declared.orders.Command.TheVariants as command
 use Rattle.qed_words.specs.declared.orders.Key.{Key}
-use Rattle.qed_words.specs.declared.orders.Key.TheVariants.{InstMin, InstMax, Round, Half, Entries, Steps, Fault, Dump, Seed, Count, Size, Changes, Only}
+use Rattle.qed_words.specs.declared.orders.Key.TheVariants.{InstMin, InstMax, Round, Half, Entries, Steps, Fault, Slip, Dump, Seed, Count, Size, Changes, Only}
 use Rattle.qed_words.specs.declared.orders.Key.TheVariants.{From, To, Turns, At, Sweep, Diverse, Results, Reached, Lean, Every, Land}
 use Rattle.qed_words.specs.declared.keys.Value.{Value}
 use Rattle.qed_words.specs.declared.keys.Value.TheVariants.{Flag, Number, Pages, Word}
@@ -37,12 +37,13 @@ option_of Half = once (codes "half") (Pages MAX_HALF)
 option_of Entries = record { name = codes "entries"; value = Word; words = codes "all" ∷ codes "reached" ∷ []; most = 1 }
 option_of Steps = once (codes "steps") (Number 0 1000000000000)
 option_of Fault = record { name = codes "fault"; value = value.Fault; words = []; most = 64 }
+option_of Slip = once (codes "slip") value.Slip
 option_of Dump = once (codes "dump") value.Dump
 option_of Seed = once (codes "seed") (Number 0 (2 ^ 64 - 1))
 option_of Count = once (codes "count") (Number 1 10000)
 option_of Size = once (codes "size") (Number 1 60000)
 option_of Changes = once (codes "changes") (Number 1 16)
-option_of Only = record { name = codes "only"; value = Word; words = codes "registers" ∷ codes "words" ∷ []; most = 1 }
+option_of Only = record { name = codes "only"; value = Word; words = codes "registers" ∷ codes "words" ∷ codes "slips" ∷ []; most = 1 }
 option_of From = once (codes "from") (Number 0 1000000)
 option_of To = once (codes "to") (Number 1 1000000)
 option_of Turns = once (codes "turns") value.Turns
@@ -76,7 +77,7 @@ abbrev pub command_row_of : Command → CommandRow
 command_row_of Transform = command_row (codes "transform" ∷ []) 2 2 (weave []) []
 command_row_of Plan = command_row (codes "plan" ∷ []) 1 1 (weave []) []
 command_row_of Explain = command_row (codes "explain" ∷ []) 1 1 (weave (At ∷ [])) []
-command_row_of Run = command_row (codes "run" ∷ []) 1 1 (Steps ∷ Fault ∷ Dump ∷ Reached ∷ []) []
+command_row_of Run = command_row (codes "run" ∷ []) 1 1 (Steps ∷ Fault ∷ Slip ∷ Dump ∷ Reached ∷ []) []
 command_row_of Campaign = command_row (codes "campaign" ∷ []) 1 1 (weave (Seed ∷ Count ∷ Changes ∷ Only ∷ From ∷ To ∷ Results ∷ [])) (Seed ∷ Count ∷ [])
 command_row_of Gen = command_row (codes "gen" ∷ []) 1 1 (Seed ∷ Size ∷ []) (Seed ∷ Size ∷ [])
 command_row_of command.List = command_row (codes "list" ∷ []) 1 1 [] []

@@ -1,7 +1,7 @@
 -- What the words of the command line ask for: an order, or the first reason why they ask for none. A text is its bytes.
 use Rattle.std.specs.Prelude.{ℕ, ◌+◌, ◌*◌, ◌/◌, ◌%◌, ◌^◌, ◌==◌, nat_lt, nat_le, min, Bool, true, false, not, ◌&&◌, ◌||◌, if◌then◌else◌, Option, Some, None}
 use Rattle.std.specs.Prelude.{is_some, unwrap_or, option_map, option_and_then, Result, Ok, Err, List, [], ◌∷◌, ◌++◌, map, length, filter_map, find, slice_get}
-use Rattle.std.specs.Prelude.{slice_index_or, String, string_bytes}
+use Rattle.std.specs.Prelude.{slice_index_or, String, string_bytes, codes}
 use Rattle.std.specs.Option.{option_or}
 use Rattle.std.specs.Str.{bytes_eq}
 use Rattle.std.specs.List.{list_all}
@@ -15,6 +15,9 @@ use Rattle.qed_model.specs.declared.aim.Places.TheVariants as aim
 use Rattle.machine.specs.declared.place.Place.{Place}
 use Rattle.machine.specs.declared.place.Place.TheVariants as change
 use Rattle.qed_model.specs.declared.change.Change.{Change}
+use Rattle.rv_step.specs.declared.slip.Slip as slips
+use Rattle.rv_step.specs.declared.slip.Slip.TheVariants as slipped
+use Rattle.rv_step.specs.declared.slip.SlipAt.{SlipAt}
 use Rattle.tests.specs.declared.options.Options.{Options}
 use Rattle.tests.specs.declared.options.Entries as weave
 use Rattle.tests.specs.declared.options.Entries.TheVariants as entry
@@ -23,17 +26,19 @@ use Rattle.qed_words.specs.declared.orders.Command.TheVariants.{Transform, Plan,
 use Rattle.qed_words.specs.declared.orders.Command.TheVariants as command
 use Rattle.qed_words.specs.declared.orders.Order.{Order}
 use Rattle.qed_words.specs.declared.orders.Order.TheVariants as order
+use Rattle.qed_words.specs.declared.orders.Watch.{Watch}
+use Rattle.qed_words.specs.declared.orders.Watch.TheVariants as watch
 use Rattle.qed_words.specs.declared.orders.Topic.{Topic}
 use Rattle.qed_words.specs.declared.orders.Topic.TheVariants as topic
 use Rattle.qed_words.specs.declared.orders.Key.{Key}
-use Rattle.qed_words.specs.declared.orders.Key.TheVariants.{InstMin, InstMax, Round, Half, Entries, Steps, Fault, Dump, Seed, Count, Size, Changes, Only}
+use Rattle.qed_words.specs.declared.orders.Key.TheVariants.{InstMin, InstMax, Round, Half, Entries, Steps, Fault, Slip, Dump, Seed, Count, Size, Changes, Only}
 use Rattle.qed_words.specs.declared.orders.Key.TheVariants.{From, To, Turns, At, Sweep, Diverse, Results, Reached, Lean, Every, Land}
 use Rattle.qed_words.specs.declared.keys.Value.{Value}
 use Rattle.qed_words.specs.declared.keys.Value.TheVariants.{Flag, Number, Pages, Word}
 use Rattle.qed_words.specs.declared.keys.Value.TheVariants as value
 use Rattle.qed_words.specs.declared.orders.Reason.{Reason}
 use Rattle.qed_words.specs.declared.orders.Reason.TheVariants.{NoCommand, UnknownCommand, EmptyWord, UnknownOption, Repeated, MissingValue, ExtraWord}
-use Rattle.qed_words.specs.declared.orders.Reason.TheVariants.{MissingFile, MissingOption, BadNumber, BadShape, OutOfRange, Split, AllEntries, FewSteps}
+use Rattle.qed_words.specs.declared.orders.Reason.TheVariants.{MissingFile, MissingOption, BadNumber, BadShape, OutOfRange, Split, AllEntries, FewSteps, SlipAndReached}
 use Rattle.tests.specs.Options.{default_options}
 use Rattle.qed_model.specs.Weave.LeanBounds.{cost_of, entry_steps}
 use Rattle.qed_words.specs.Tables.{place_among, option_of, command_row_of, command_of, key_named}
@@ -46,7 +51,7 @@ use Rattle.qed_model.specs.Promise.Changed.{in_order}
 abbrev pub texts : {A : Type 0} → List (String A) → List (List ℕ)
 texts words = map string_bytes words
 
--- ---- faults and dumps
+-- ---- faults, slips and dumps
 
 abbrev pub word_place : ℕ → Option Place
 word_place address = if address % 8 == 0 then Some (change.Word address) else None
@@ -72,6 +77,41 @@ change_in (Some parts) = change_from (parsed_number parts.0) (parted equals part
 -- a fault: `STEP:PLACE=V`
 unfoldable pub fault : List ℕ → Option Change
 fault text = change_in (parted colon text)
+
+-- the ways that need no number
+abbrev pub plain_slip : List ℕ → Option slips.Slip
+plain_slip text =
+    if bytes_eq text (codes "skip") then Some slipped.Skip
+    else if bytes_eq text (codes "branch") then Some slipped.Branch
+    else None
+
+-- those with a number
+abbrev pub valued_slip : List ℕ → ℕ → Option slips.Slip
+valued_slip name x =
+    if bytes_eq name (codes "result") then Some (slipped.Result x)
+    else if bytes_eq name (codes "store") then Some (slipped.Store x)
+    else if bytes_eq name (codes "place") then Some (slipped.Place x)
+    else None
+
+abbrev pub way_in : List ℕ → Option (List ℕ × List ℕ) → Option slips.Slip
+way_in text None = plain_slip text
+way_in text (Some parts) = option_and_then (valued_slip parts.0) (parsed_number parts.1)
+
+-- how an instruction goes wrong: `skip`, `branch`, `result=V`, `store=V` or `place=A`
+unfoldable pub way : List ℕ → Option slips.Slip
+way text = way_in text (parted equals text)
+
+abbrev pub slip_at : Option ℕ → Option slips.Slip → Option SlipAt
+slip_at (Some step) (Some slip) = Some (record { step = step; slip = slip })
+slip_at _ _ = None
+
+abbrev pub slip_in : Option (List ℕ × List ℕ) → Option SlipAt
+slip_in None = None
+slip_in (Some parts) = slip_at (parsed_number parts.0) (way parts.1)
+
+-- a slip: `STEP:WAY`
+unfoldable pub slip : List ℕ → Option SlipAt
+slip text = slip_in (parted colon text)
 
 -- an address and a length from 1 to 65,536, with their end at 2^64 or below
 abbrev pub span_of : Option ℕ → Option ℕ → Option (ℕ × ℕ)
@@ -233,6 +273,7 @@ wrong_shape key is_shaped = if is_shaped then None else Some (BadShape key)
 abbrev pub wrong_text : ℕ → Key → Value → List ℕ → Option Reason
 wrong_text count key Flag text = None
 wrong_text count key value.Fault text = wrong_shape key (is_some (fault text))
+wrong_text count key value.Slip text = wrong_shape key (is_some (slip text))
 wrong_text count key value.Dump text = wrong_shape key (is_some (dump text))
 wrong_text count key value.Turns text = wrong_turns count (turns text)
 wrong_text count key Word text = wrong_shape key (is_some (place_among (option_of key).words text))
@@ -320,9 +361,26 @@ abbrev pub topic_of : Option Command → Topic
 topic_of None = topic.All
 topic_of (Some command) = topic.One command
 
--- the places that the words of `--only` name, by their place
-abbrev pub places : ℕ → Places
-places n = if n == 0 then aim.Registers else aim.Words
+-- the places that the words of `--only` name, by their place; `slips` names none
+abbrev pub places : ℕ → Option Places
+places n = if n == 0 then Some aim.Registers else if n == 1 then Some aim.Words else None
+
+abbrev pub is_third : Option ℕ → Bool
+is_third None = false
+is_third (Some n) = n == 2
+
+-- whether strikes are slips, the third of these words
+unfoldable pub is_slips : List Argument → Bool
+is_slips given = is_third (word_given Only given)
+
+-- what a run looks for
+abbrev pub watch_of : Bool → Option SlipAt → Watch
+watch_of true slip = watch.Jumps
+watch_of false None = watch.Nothing
+watch_of false (Some at) = watch.Slip at
+
+unfoldable pub watch_given : List Argument → Watch
+watch_given given = watch_of (not (lacks given Reached)) (option_and_then slip (value_of Slip given))
 
 -- without `--steps` a run has 1,000,000 steps
 unfoldable pub steps_given : List Argument → ℕ
@@ -334,16 +392,20 @@ draws given = record {
   seed = unwrap_or (number_given Seed given) 0;
   count = unwrap_or (number_given Count given) 0;
   changes = unwrap_or (number_given Changes given) 1;
-  aim = record { only = option_map places (word_given Only given); from = unwrap_or (number_given From given) 0; to = number_given To given };
+  aim = record { only = option_and_then places (word_given Only given); from = unwrap_or (number_given From given) 0; to = number_given To given };
 }
+
+abbrev pub campaign_of : Bool → List ℕ → Options → Draws → Bool → Order
+campaign_of true input options draws results = order.Slips input options draws results
+campaign_of false input options draws results = order.Campaign input options draws results
 
 unfoldable pub order_of : Command → List Argument → Order
 order_of Transform given = order.Transform (file given 0) (file given 1) (options given)
 order_of Plan given = order.Plan (file given 0) (options given)
 order_of Explain given = order.Explain (file given 0) (options given) (number_given At given)
 order_of Run given =
-    order.Run (file given 0) (steps_given given) (changes_given given) (option_and_then dump (value_of Dump given)) (not (lacks given Reached))
-order_of Campaign given = order.Campaign (file given 0) (options given) (draws given) (not (lacks given Results))
+    order.Run (file given 0) (steps_given given) (changes_given given) (option_and_then dump (value_of Dump given)) (watch_given given)
+order_of Campaign given = campaign_of (is_slips given) (file given 0) (options given) (draws given) (not (lacks given Results))
 order_of Gen given = order.Gen (file given 0) (unwrap_or (number_given Seed given) 0) (unwrap_or (number_given Size given) 0)
 order_of command.List given = order.List (file given 0)
 order_of Asm given = order.Asm (file given 0) (file given 1)
@@ -381,6 +443,14 @@ is_empty_range _ _ = false
 unfoldable pub window_reason : List Argument → Option Reason
 window_reason given = if is_empty_range (number_given From given) (number_given To given) then Some (OutOfRange To) else None
 
+-- a run looks for one thing
+unfoldable pub watch_reason : List Argument → Option Reason
+watch_reason given = if lacks given Slip || lacks given Reached then None else Some SlipAndReached
+
+-- a strike of slips is one instruction
+unfoldable pub slips_reason : List Argument → Option Reason
+slips_reason given = if is_slips given && not (unwrap_or (number_given Changes given) 1 == 1) then Some (OutOfRange Changes) else None
+
 -- why the word behind `help` is wrong: it must name a command, if it is there
 unfoldable pub topic_reason : Command → List Argument → Option Reason
 topic_reason Help given = if length (files given) == 0 || is_some (command_of (file given 0)) then None else Some UnknownCommand
@@ -391,7 +461,7 @@ unfoldable pub reason_of : Command → List Argument → Option Reason
 reason_of command given =
     first_reason
     (first_wrong command [] given ∷ missing command given ∷ first_wrong_value command given ∷ split_reason given
-    ∷ missing_lean given ∷ lean_reason given ∷ window_reason given ∷ topic_reason command given ∷ [])
+    ∷ missing_lean given ∷ lean_reason given ∷ window_reason given ∷ watch_reason given ∷ slips_reason given ∷ topic_reason command given ∷ [])
 
 abbrev pub answer : Order → Option Reason → Result Order Reason
 answer o None = Ok o

@@ -66,7 +66,7 @@ impl Command {
             Command::Transform => row!(["transform"], 2, 2, weave [], []),
             Command::Plan => row!(["plan"], 1, 1, weave [], []),
             Command::Explain => row!(["explain"], 1, 1, weave[At], []),
-            Command::Run => row!(["run"], 1, 1, [Steps, Fault, Dump, Reached], []),
+            Command::Run => row!(["run"], 1, 1, [Steps, Fault, Slip, Dump, Reached], []),
             Command::Campaign =>
                 row!(["campaign"], 1, 1, weave [Seed, Count, Changes, Only, From, To, Results], [Seed, Count]),
             Command::Gen => row!(["gen"], 1, 1, [Seed, Size], [Seed, Size]),

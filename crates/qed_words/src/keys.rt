@@ -16,6 +16,8 @@ pub enum Value {
     Pages(u64),
     /// `STEP:PLACE=V`.
     Fault,
+    /// `STEP:WAY`.
+    Slip,
     /// `ADDR:LEN`.
     Dump,
     /// Digits, each below the number of files.
@@ -67,12 +69,13 @@ impl Key {
             Key::Entries => row!("entries", Value::Word, ["all", "reached"], 1),
             Key::Steps => row!("steps", Value::Number(0, 1_000_000_000_000)),
             Key::Fault => row!("fault", Value::Fault, [], 64),
+            Key::Slip => row!("slip", Value::Slip),
             Key::Dump => row!("dump", Value::Dump),
             Key::Seed => row!("seed", Value::Number(0, u64::MAX)),
             Key::Count => row!("count", Value::Number(1, 10_000)),
             Key::Size => row!("size", Value::Number(1, 60_000)),
             Key::Changes => row!("changes", Value::Number(1, 16)),
-            Key::Only => row!("only", Value::Word, ["registers", "words"], 1),
+            Key::Only => row!("only", Value::Word, ["registers", "words", "slips"], 1),
             Key::From => row!("from", Value::Number(0, 1_000_000)),
             Key::To => row!("to", Value::Number(1, 1_000_000)),
             Key::Turns => row!("turns", Value::Turns),

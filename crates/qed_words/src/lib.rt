@@ -24,6 +24,6 @@ pub use commands::{COMMANDS, CommandRow, place_among};
 pub use error::WordsError;
 pub use keys::{KeyRow, Value};
 pub use name::{Name, Names};
-pub use orders::{Command, Key, Order, Reason, Topic};
+pub use orders::{Command, Key, Order, Reason, Topic, Watch};
 pub use shape::fault;
 pub use words::order;

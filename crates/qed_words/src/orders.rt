@@ -3,6 +3,7 @@
 use crate::{Name, Names};
 use elf_types::Bytes;
 use qed_model::{Changes, Draws, Options};
+use rv_step::SlipAt;
 
 /// A command, without its files and options.
 #[derive(Clone, Copy, Debug, PartialEq, Eq)]
@@ -30,6 +31,16 @@ pub enum Topic {
     Version,
 }
 
+/// What a run looks for, besides how it ends.
+#[derive(Clone, Copy, Debug)]
+pub enum Watch {
+    Nothing,
+    /// The first indirect jump to an address that is not reached.
+    Jumps,
+    /// An instruction that goes wrong in it.
+    Slip(SlipAt),
+}
+
 /// A command with its files and options.
 #[derive(Debug, Drop)]
 pub enum Order {
@@ -40,10 +51,12 @@ pub enum Order {
     /// The input, and the address of the word to print alone.
     Explain(Name, Options, Option<u64>),
     /// The file, the most steps, the changes in the order of their steps, the address and length of
-    /// the dump in bytes, and whether to report an indirect jump to an address that is not reached.
-    Run(Name, u64, Changes, Option<(u64, u64)>, bool),
+    /// the dump in bytes, and what the run looks for.
+    Run(Name, u64, Changes, Option<(u64, u64)>, Watch),
     /// The input, the strikes, and whether to print which ends are right.
     Campaign(Name, Options, Draws, bool),
+    /// As `Campaign`, but the strikes are slips: an instruction each, which goes wrong once.
+    Slips(Name, Options, Draws, bool),
     /// The output, the seed and the size.
     Gen(Name, u64, u64),
     /// The file.
@@ -67,6 +80,7 @@ pub enum Key {
     Entries,
     Steps,
     Fault,
+    Slip,
     Dump,
     Seed,
     Count,
@@ -105,7 +119,7 @@ pub enum Reason {
     MissingFile,
     MissingOption(Key),
     BadNumber(Key),
-    /// A fault, a dump, places or turns of another form.
+    /// A fault, a slip, a dump, places or turns of another form.
     BadShape(Key),
     OutOfRange(Key),
     /// The floor of a piece leaves no room: `2 * inst_min` is above `inst_max + 1`.
@@ -114,4 +128,6 @@ pub enum Reason {
     AllEntries,
     /// The longest block of the lean form has this many steps, which is not below those from check to check.
     FewSteps(u64),
+    /// A slip and a watch on indirect jumps are both asked for.
+    SlipAndReached,
 }

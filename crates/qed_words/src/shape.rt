@@ -1,8 +1,10 @@
-//! The shapes of faults and dumps.
+//! The shapes of faults, slips and dumps.
 ghost use Rattle.std.specs.Prelude.{◌≡◌};
-ghost use Rattle.qed_words.specs.Words.{parsed_place as place_of, fault as fault_of, dump as dump_of};
+ghost use Rattle.qed_words.specs.Words.{parsed_place as place_of, fault as fault_of, plain_slip as plain_slip_of, valued_slip as valued_slip_of};
+ghost use Rattle.qed_words.specs.Words.{way as way_of, slip as slip_of, dump as dump_of};
 
 use qed_model::{Change, Place};
+use rv_step::{Slip, SlipAt};
 use texts::{number, register, split_once};
 
 /// A register, or the address of an aligned word.
@@ -31,6 +33,52 @@ pub fn fault(text: &[u8]) -> Option<Change>
         step: number(step)?,
         place: place(spot)?,
         value: number(value)?,
+    })
+}
+
+/// The way that needs no number.
+fn plain_slip(text: &[u8]) -> Option<Slip>
+    ensures { result ≡ plain_slip_of text.now }
+{
+    if text == "skip".as_bytes() {
+        return Some(Slip::Skip);
+    }
+    (text == "branch".as_bytes()).then_some(Slip::Branch)
+}
+
+/// The way with a name and a number.
+fn valued_slip(name: &[u8], value: u64) -> Option<Slip>
+    ensures { result ≡ valued_slip_of name.now value }
+{
+    if name == "result".as_bytes() {
+        return Some(Slip::Result(value));
+    }
+    if name == "store".as_bytes() {
+        return Some(Slip::Store(value));
+    }
+    (name == "place".as_bytes()).then_some(Slip::Place(value))
+}
+
+/// How an instruction goes wrong: `skip`, `branch`, `result=V`, `store=V` or `place=A`.
+#[tactic(auto, unfolding(crate::specs::Words::way))]
+fn way(text: &[u8]) -> Option<Slip>
+    ensures { result ≡ way_of text.now }
+{
+    match split_once(text, b'=') {
+        None => plain_slip(text),
+        Some((name, value)) => valued_slip(name, number(value)?),
+    }
+}
+
+/// The instruction that goes wrong, and how: `STEP:WAY`.
+#[tactic(auto, unfolding(crate::specs::Words::slip))]
+pub fn slip(text: &[u8]) -> Option<SlipAt>
+    ensures { result ≡ slip_of text.now }
+{
+    let (step, rest) = split_once(text, b':')?;
+    Some(SlipAt {
+        step: number(step)?,
+        slip: way(rest)?,
     })
 }
 

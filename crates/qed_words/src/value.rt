@@ -6,7 +6,7 @@ ghost use Rattle.qed_words.specs.Seen.{seen};
 
 use crate::argument::Argument;
 use crate::given::{count_files, value_in};
-use crate::shape::{dump, fault};
+use crate::shape::{dump, fault, slip};
 use crate::turns::wrong_turns;
 use crate::{Command, Key, Reason, Value, place_among};
 use rv_isa::profile::PAGE;
@@ -43,6 +43,7 @@ fn wrong_value(count: usize, key: Key, text: &[u8]) -> Option<Reason>
     let is_shaped = match row.value {
         Value::Flag => true,
         Value::Fault => fault(text).is_some(),
+        Value::Slip => slip(text).is_some(),
         Value::Dump => dump(text).is_some(),
         Value::Word => place_among(row.words, text).is_some(),
         Value::Turns => return wrong_turns(count, text),

@@ -1,8 +1,8 @@
 //! The order that words ask for.
 ghost use Rattle.std.specs.Prelude.{◌≡◌, Ok, IfOk, IfErr, map, option_and_then};
 ghost use Rattle.qed_words.specs.declared.orders.Key.TheVariants as key;
-ghost use Rattle.qed_words.specs.Words.{texts, dump as dump_of, places as places_of, draws as draws_of, value_of, file as file_of, files};
-ghost use Rattle.qed_words.specs.Words.{steps_given as steps_given_of, order_of, asked};
+ghost use Rattle.qed_words.specs.Words.{texts, dump as dump_of, places as places_of, is_slips as is_slips_of, draws as draws_of, value_of, file as file_of, files};
+ghost use Rattle.qed_words.specs.Words.{steps_given as steps_given_of, watch_given as watch_given_of, order_of, asked};
 ghost use Rattle.qed_words.specs.Seen.{seen};
 ghost use Rattle.qed_words.specs.Sound.{IsSoundOrder};
 ghost use Rattle.qed_words.specs.WordsError.{ExplainsWords};
@@ -14,9 +14,9 @@ use crate::error::WordsError;
 use crate::given::{file, first_value, lacks, name_in, number_given, word_given};
 use crate::options::options;
 use crate::reason::first_reason;
-use crate::shape::dump;
+use crate::shape::{dump, slip};
 use crate::turns::turns_given;
-use crate::{Command, Key, Name, Names, Order, Reason, Topic};
+use crate::{Command, Key, Name, Names, Order, Reason, Topic, Watch};
 use qed_model::{Aim, Draws, Places};
 use std::alloc::{AllocError, Global};
 
@@ -59,15 +59,37 @@ fn dump_given(arguments: &[Argument<'_>]) -> Option<(u64, u64)>
     dump(first_value(Key::Dump, arguments)?)
 }
 
-/// The places that the words of `--only` name, by their place.
-fn places(place: usize) -> Places
+/// What a run looks for.
+#[tactic(auto, unfolding(crate::specs::Words::watch_given))]
+fn watch_given(arguments: &[Argument<'_>]) -> Watch
+    ensures { result ≡ watch_given_of (map seen arguments.now) }
+{
+    if !lacks(arguments, Key::Reached) {
+        return Watch::Jumps;
+    }
+    match first_value(Key::Slip, arguments).and_then(slip) {
+        None => Watch::Nothing,
+        Some(at) => Watch::Slip(at),
+    }
+}
+
+/// The places that the words of `--only` name, by their place; `slips` names none.
+fn places(place: usize) -> Option<Places>
     ensures { result ≡ places_of place }
 {
-    if place == 0 {
-        Places::Registers
-    } else {
-        Places::Words
+    match place {
+        0 => Some(Places::Registers),
+        1 => Some(Places::Words),
+        _ => None,
     }
+}
+
+/// Whether strikes are slips.
+#[tactic(auto, unfolding(crate::specs::Words::is_slips))]
+pub fn is_slips(arguments: &[Argument<'_>]) -> bool
+    ensures { result ≡ is_slips_of (map seen arguments.now) }
+{
+    word_given(Key::Only, arguments) == Some(2)
 }
 
 /// The strikes that arguments ask for.
@@ -80,7 +102,7 @@ fn draws(arguments: &[Argument<'_>]) -> Draws
         count: number_given(Key::Count, arguments).unwrap_or(0),
         changes: number_given(Key::Changes, arguments).unwrap_or(1),
         aim: Aim {
-            only: word_given(Key::Only, arguments).map(places),
+            only: word_given(Key::Only, arguments).and_then(places),
             from: number_given(Key::From, arguments).unwrap_or(0),
             to: number_given(Key::To, arguments),
         },
@@ -110,12 +132,16 @@ fn make_order(
         Command::Run => {
             let steps = steps_given(arguments);
             let changes = changes(alloc, arguments)?;
-            let reached = !lacks(arguments, Key::Reached);
-            Ok(Order::Run(first, steps, changes, dump_given(arguments), reached))
+            let watch = watch_given(arguments);
+            Ok(Order::Run(first, steps, changes, dump_given(arguments), watch))
         }
         Command::Campaign => {
             let results = !lacks(arguments, Key::Results);
-            Ok(Order::Campaign(first, options(arguments), draws(arguments), results))
+            let (options, draws) = (options(arguments), draws(arguments));
+            if is_slips(arguments) {
+                return Ok(Order::Slips(first, options, draws, results));
+            }
+            Ok(Order::Campaign(first, options, draws, results))
         }
         Command::Gen => {
             let seed = number_given(Key::Seed, arguments).unwrap_or(0);

@@ -3,3 +3,4 @@ pub mod PlanNumbers
 pub mod RegisterLines
 pub mod Ends
 pub mod Tallies
+pub mod SlipTallies

@@ -79,6 +79,8 @@ Runs an ELF file for RV64IM from registers 0, and prints how the run stands and 
 --steps N             the most steps, 0 to 1000000000000: by default 1000000
 --fault STEP:xR=V     sets x1 to x31 to V after so many steps: up to 64 faults
 --fault STEP:ADDR=V   the same with the 8 bytes at a multiple of 8
+--slip STEP:WAY       the instruction behind so many steps goes wrong: by skip or branch
+--slip STEP:WAY=V     the same by result=V, store=V or place=V, where V is an address
 --dump ADDR:LEN       prints 1 to 65536 bytes of memory too
 --reached             tells of a test whether all its jumps by register led to reached words
 
@@ -95,7 +97,7 @@ is printed is what came of each, and how often each came. The other options are 
 --seed N      what is drawn from, any number: it must be given
 --count N     how many strikes, 1 to 10000: it must be given
 --changes N   how many changes in each, 1 to 16: by default 1
---only KIND   changes nothing but registers, or nothing but words
+--only KIND   registers or words: changes these alone; slips: one instruction goes wrong
 --from T      the least step of a change, 0 to 1000000: by default 0
 --to T        the step behind the greatest, up to 1000000 and above --from: by default the output's end
 --results     says of each end whether it is right: with the values of the end of IN

@@ -1,11 +1,12 @@
 //! What is printed about a run.
 ghost use Rattle.std.specs.Prelude.{◌≡◌, ◌+◌, ◌^◌, ◌<◌, ◌≤◌, ◌++◌, Some, IfSome, IfOk, string_bytes};
 ghost use Rattle.machine.specs.Memory.{Memory};
-ghost use Rattle.qed_words.specs.Text.Run.{cause_text, outcome_text, outcome_line, jumps_line, register_line, register_lines, run_lines, run_text};
+ghost use Rattle.qed_words.specs.Text.Run.{cause_text, outcome_text, outcome_line, jumps_line, slipped_line, register_line, register_lines, run_lines, run_text};
 ghost use Rattle.rv_step.specs.Harts.{with_memory};
 
 use crate::dump::dump_text;
 use elf_types::Bytes;
+use fault_inject::Slipped;
 use qed_model::{Cause, Outcome};
 use rv_isa::Reg;
 use rv_step::{Hart, Machine};
@@ -79,13 +80,13 @@ fn registers_text(alloc: Global, hart: &Hart) -> Result<Vec<u8>, AllocError>
     Ok(text)
 }
 
-/// The first line about a run, a text about its jumps, and the registers.
-fn lines_with(alloc: Global, hart: &Hart, jumps: &[u8]) -> Result<Vec<u8>, AllocError>
+/// The first line about a run, a second one, and the registers.
+fn lines_with(alloc: Global, hart: &Hart, second: &[u8]) -> Result<Vec<u8>, AllocError>
     ensures { IfOk result (λ text. (m : Memory)
-        → text.items ≡ outcome_line (with_memory hart.now m) ++ jumps.now ++ register_lines (with_memory hart.now m).state 31) }
+        → text.items ≡ outcome_line (with_memory hart.now m) ++ second.now ++ register_lines (with_memory hart.now m).state 31) }
 {
     let mut text = outcome_text(alloc, hart)?.into_bytes();
-    text.extend_from_slice(jumps)?;
+    text.extend_from_slice(second)?;
     let registers = registers_text(alloc, hart)?;
     text.extend_from_slice(&registers)?;
     Ok(text)
@@ -112,19 +113,30 @@ pub fn jumps_text(alloc: Global, astray: Option<(u64, u64)>) -> Result<String, A
     }
 }
 
-/// The text about a run: how it ended, after how many steps, at which pc. Then a text about its
-/// jumps, which may be empty, and the registers x1 to x31, a line each. Then the bytes of a dump,
+/// The line about a slip: whether the instruction went wrong, and its address.
+pub fn slipped_text(alloc: Global, slipped: Slipped) -> Result<String, AllocError>
+    ensures { IfOk result (λ text. string_bytes text ≡ slipped_line slipped) }
+{
+    match slipped {
+        Slipped::At(pc) => format!(in alloc; "slipped at {}\n", Address(pc)),
+        Slipped::NoSlip(pc) => format!(in alloc; "no such slip at {}\n", Address(pc)),
+        Slipped::NotReached => String::from_str(alloc, "slip not reached\n"),
+    }
+}
+
+/// The text about a run: how it ended, after how many steps, at which pc. Then a second line about its
+/// jumps or its slip, which may be empty, and the registers x1 to x31, a line each. Then the bytes of a dump,
 /// by its address and length in bytes, 16 to a line.
 pub fn run_text(
     alloc: Global,
     machine: &Machine,
-    jumps: &[u8],
+    second: &[u8],
     dump: Option<(u64, u64)>,
 ) -> Result<Bytes, AllocError>
     requires { IfSome dump (λ d. (1 ≤ d.1) × (d.1 ≤ 65536) × (d.0 + d.1 ≤ 2 ^ 64)) }
-    ensures { IfOk result (λ text. text ≡ run_text machine.now jumps.now dump) }
+    ensures { IfOk result (λ text. text ≡ run_text machine.now second.now dump) }
 {
-    let mut text = lines_with(alloc, machine.hart(), jumps)?;
+    let mut text = lines_with(alloc, machine.hart(), second)?;
     if let Some((address, length)) = dump {
         let shown = dump_text(alloc, machine, address, length)?;
         text.extend_from_slice(&shown)?;

@@ -29,11 +29,11 @@ fn right_count(rights: Option<&[bool]>) -> Option<u64>
     Some(how_many_right(rights?))
 }
 
-/// How many strikes ended, and if asked for how many of them right.
+/// How many strikes or slips ended, and if asked for how many of them right.
 #[derive(Clone, Copy)]
-struct Ends {
-    count: u64,
-    right: Option<u64>,
+pub struct Ends {
+    pub count: u64,
+    pub right: Option<u64>,
 }
 
 impl fmt::Display for Ends {

@@ -26,6 +26,7 @@ pub fn usage_text(alloc: Global, reason: Reason) -> Result<Bytes, AllocError>
         Reason::OutOfRange(key) => keyed(alloc, "usage: out of range ", key)?,
         Reason::Split => String::from_str(alloc, "usage: split\n")?,
         Reason::AllEntries => String::from_str(alloc, "usage: all entries\n")?,
+        Reason::SlipAndReached => String::from_str(alloc, "usage: slip and reached\n")?,
         Reason::FewSteps(steps) => numbered(alloc, "usage: few steps ", steps)?,
     };
     Ok(Bytes::of(line.into_bytes()))

@@ -6,10 +6,11 @@ use Rattle.machine.specs.declared.outcome.Cause.TheVariants as cause
 use Rattle.machine.specs.declared.outcome.Outcome.TheVariants.{Ended, Fired}
 use Rattle.machine.specs.Memory.{Memory, grants, number, put}
 use Rattle.machine.specs.Values.{loaded, width_of}
-use Rattle.machine.specs.Step.{State, computed_value, execute, moved, next_pc, place, reg, stopped, stored, trapped, Class, Ins, class_of, set_reg}
+use Rattle.machine.specs.Step.{State, computed_value, execute, moved, next_pc, place, stopped, stored, trapped, Class, Ins, class_of, set_reg}
 use Rattle.mem_image.specs.Access.{allowed_number}
 use Rattle.rv_step.specs.Known.{at_state}
 use Rattle.rv_step.specs.Harts.{HartState, with_memory, LeadsIn}
+use Rattle.rv_step.specs.Slipped.{stores}
 
 -- ---- by the class
 pub by_class : (i : Ins) (h k : HartState) (m : Memory) (c d : Class) (f : State → State) → c ≡ d → ((s : State) → execute d i s ≡ f s) → LeadsIn f h m k m → LeadsIn (execute c i) h m k m
@@ -73,7 +74,7 @@ load_traps i h k m n a w same at wide read led =
     subst (λ r. LeadsIn (execute class.Load i) h r k n) same here
 
 -- ---- stores
-taken : (t : Bool) (x y : State) → t ≡ true → x ≡ cond t x y
+pub taken : (t : Bool) (x y : State) → t ≡ true → x ≡ cond t x y
 taken true x y e = refl
 taken false x y e = absurd (cc)
 
@@ -89,32 +90,27 @@ kept_as : (d : Bool) (x y n : Memory) → d ≡ false → n ≡ cond d x y → n
 kept_as true x y n e h = absurd (cc)
 kept_as false x y n e h = h
 
--- the memory n is m, and o is what the write left
+-- o is what the write left
 pub store_writes :
-    (i : Ins) (h k : HartState) (m n o : Memory) (a w v : ℕ) (d : Bool) → n ≡ m → a ≡ place i (with_memory h n).state → w ≡ width_of i.kind → v ≡ reg (with_memory h n).state i.rs2
-    → d ≡ grants (λ f. f.write) n a w → o ≡ cond d (put n a w v) n → d ≡ true → LeadsIn (λ s. moved s.regs (next_pc s) s) h o k o → LeadsIn (execute class.Store i) h m k o
-unfolding execute
-store_writes i h k m n o a w v d same at wide value granted written on led =
-    let s : State = (with_memory h n).state in
-    let granting : grants (λ f. f.write) n (place i s) (width_of i.kind) ≡ true = sym (rw (at, wide) at granted) ∙ on in
-    let wrote : o ≡ put n (place i s) (width_of i.kind) (reg s i.rs2) = rw (at, wide, value) at (written_as d (put n a w v) n o on written) in
-    let here : LeadsIn (execute class.Store i) h n k o =
+    (i : Ins) (h k : HartState) (m o : Memory) (a w v : ℕ) (d : Bool) → w ≡ width_of i.kind → d ≡ grants (λ f. f.write) m a w → o ≡ cond d (put m a w v) m → d ≡ true
+    → LeadsIn (λ s. moved s.regs (next_pc s) s) h o k o → LeadsIn (stores i a v) h m k o
+store_writes i h k m o a w v d wide granted written on led =
+    let s : State = (with_memory h m).state in
+    let granting : grants (λ f. f.write) m a (width_of i.kind) ≡ true = sym (rw wide at granted) ∙ on in
+    let wrote : o ≡ put m a (width_of i.kind) v = rw wide at (written_as d (put m a w v) m o on written) in
     led
-    ∙ ap (λ u. at_state (stored u (next_pc s) s) (with_memory h n)) wrote
-    ∙ ap (λ t. at_state t (with_memory h n)) (taken (grants (λ f. f.write) n (place i s) (width_of i.kind)) (stored (put n (place i s) (width_of i.kind) (reg s i.rs2)) (next_pc s) s) (trapped (cause.Store (place i s)) s) granting) in
-    subst (λ r. LeadsIn (execute class.Store i) h r k o) same here
+    ∙ ap (λ u. at_state (stored u (next_pc s) s) (with_memory h m)) wrote
+    ∙ ap (λ t. at_state t (with_memory h m)) (taken (grants (λ f. f.write) m a (width_of i.kind)) (stored (put m a (width_of i.kind) v) (next_pc s) s) (trapped (cause.Store a) s) granting)
 
 pub store_traps :
-    (i : Ins) (h k : HartState) (m n o : Memory) (a w v : ℕ) (d : Bool) → n ≡ m → a ≡ place i (with_memory h n).state → w ≡ width_of i.kind
-    → d ≡ grants (λ f. f.write) n a w → o ≡ cond d (put n a w v) n → d ≡ false → LeadsIn (trapped (cause.Store a)) h o k o → LeadsIn (execute class.Store i) h m k o
-unfolding execute
-store_traps i h k m n o a w v d same at wide granted written off led =
-    let s : State = (with_memory h n).state in
-    let shut : grants (λ f. f.write) n (place i s) (width_of i.kind) ≡ false = sym (rw (at, wide) at granted) ∙ off in
-    let kept : o ≡ n = kept_as d (put n a w v) n o off written in
-    let there : LeadsIn (trapped (cause.Store a)) h n k n = subst (λ r. LeadsIn (trapped (cause.Store a)) h r k r) kept led in
-    let here : LeadsIn (execute class.Store i) h n k n =
+    (i : Ins) (h k : HartState) (m o : Memory) (a w v : ℕ) (d : Bool) → w ≡ width_of i.kind → d ≡ grants (λ f. f.write) m a w → o ≡ cond d (put m a w v) m → d ≡ false
+    → LeadsIn (trapped (cause.Store a)) h o k o → LeadsIn (stores i a v) h m k o
+store_traps i h k m o a w v d wide granted written off led =
+    let s : State = (with_memory h m).state in
+    let shut : grants (λ f. f.write) m a (width_of i.kind) ≡ false = sym (rw wide at granted) ∙ off in
+    let kept : o ≡ m = kept_as d (put m a w v) m o off written in
+    let there : LeadsIn (trapped (cause.Store a)) h m k m = subst (λ r. LeadsIn (trapped (cause.Store a)) h r k r) kept led in
+    let here : LeadsIn (stores i a v) h m k m =
     there
-    ∙ ap (λ u. at_state (trapped (cause.Store u) s) (with_memory h n)) at
-    ∙ ap (λ t. at_state t (with_memory h n)) (left (grants (λ f. f.write) n (place i s) (width_of i.kind)) (stored (put n (place i s) (width_of i.kind) (reg s i.rs2)) (next_pc s) s) (trapped (cause.Store (place i s)) s) shut) in
-    subst (λ r. LeadsIn (execute class.Store i) h r k o) same (subst (λ r. LeadsIn (execute class.Store i) h n k r) (sym kept) here)
+    ∙ ap (λ t. at_state t (with_memory h m)) (left (grants (λ f. f.write) m a (width_of i.kind)) (stored (put m a (width_of i.kind) v) (next_pc s) s) (trapped (cause.Store a) s) shut) in
+    subst (λ r. LeadsIn (stores i a v) h m k r) (sym kept) here

@@ -77,7 +77,7 @@ made_more p q r n h goes stepped same =
 pub step_made : (p here next : Progress) (n : ℕ) → IsRunMade p n here → does_step here.state.outcome ≡ true → next ≡ at_state (step here.state) here → IsRunMade p (n + 1) next
 step_made p here next n h goes is = made_more p here next n h goes (ap (λ q. q.state) is) (ap (λ q. q.steps) is)
 
-one_counted : (o : Outcome) (n : ℕ) → does_step o ≡ true → steps_after o n ≡ one_more n
+pub one_counted : (o : Outcome) (n : ℕ) → does_step o ≡ true → steps_after o n ≡ one_more n
 one_counted Going n h = refl
 one_counted o n h = absurd (cc)
 

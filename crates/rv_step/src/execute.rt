@@ -3,10 +3,11 @@ ghost use Rattle.std.specs.Prelude.{◌≡◌, ◌≢◌, ◌+◌, ◌%◌, ◌^
 ghost use Rattle.rv_isa.specs.Kind.{class_of};
 ghost use Rattle.rv_isa.specs.Regs.{set_reg};
 ghost use Rattle.rv_isa.specs.declared.class.Class.TheVariants as class;
-ghost use Rattle.machine.specs.Step.{act, computed_value, execute, imm, moved, next, next_pc, stopped, trapped};
+ghost use Rattle.machine.specs.Step.{act, computed_value, execute, imm, jumped, moved, next, next_pc, stopped, trapped, Ins};
 ghost use Rattle.rv_alu.specs.Steps.{branched, IsComputing, IsBranching, IsJumping, IsPassing};
 ghost use Rattle.rv_step.specs.Harts.{with_memory, LeadsHart, LeadsIn};
 ghost use Rattle.rv_step.specs.Known.{known_at, state_word, HasSecond};
+ghost use Rattle.rv_step.specs.Slipped.{stores};
 
 use crate::hart::Hart;
 use crate::loads::{extended, width};
@@ -162,7 +163,7 @@ impl Hart {
     }
 
     /// Goes to the next word.
-    fn go_on(&mut self)
+    pub(crate) fn go_on(&mut self)
         ensures step { LeadsHart (λ s. moved s.regs (next_pc s) s) self.old self.new }
         ensures on { self.new.outcome ≡ self.old.outcome }
     {
@@ -235,7 +236,7 @@ impl Hart {
     }
 
     /// The address that a load or a store touches first.
-    fn place(&self, ins: &Ins) -> u64
+    pub(crate) fn place(&self, ins: &Ins) -> u64
         ensures { result ≡ (slice_index self.now.regs ins.now.rs1 + imm ins.now) % 2 ^ 64 }
     {
         self.reg(ins.rs1).wrapping_add(ins.imm.cast_unsigned())
@@ -271,6 +272,23 @@ impl Hart {
     {
         let address = self.place(ins);
         let value = self.reg(ins.rs2);
+        self.store_at(kind, address, value, image)
+    }
+
+    /// A store of this kind of a number at an address.
+    #[inline(always)]
+    pub(crate) fn store_at(
+        &mut self,
+        kind: Kind,
+        address: u64,
+        value: u64,
+        image: &mut Image,
+    ) -> Result<bool, AllocError>
+        ensures done { IfOk result (λ _. (i : Ins) → i.kind ≡ kind → LeadsIn (stores i address value) self.old image.old self.new image.new) }
+        ensures on { IfOk result (λ on. on ≡ true → self.new.outcome ≡ self.old.outcome) }
+        ensures kept { IfErr result (λ _. self.new ≡ self.old) }
+        ensures memory { IfErr result (λ _. image.new ≡ image.old) }
+    {
         if image.write(address, width(kind), value)? {
             self.go_on();
             return Ok(true);
@@ -289,6 +307,15 @@ impl Hart {
         ensures on { result ≡ true → self.new.outcome ≡ self.old.outcome }
     {
         let target = self.arrival(kind, ins);
+        self.land(target)
+    }
+
+    /// Goes to a target. One off the grain of 4 traps.
+    #[inline(always)]
+    pub(crate) fn land(&mut self, target: u64) -> bool
+        ensures step { LeadsHart (λ s. jumped s.regs target s) self.old self.new }
+        ensures on { result ≡ true → self.new.outcome ≡ self.old.outcome }
+    {
         if target % 4 == 0 {
             self.pc = target;
             return true;

@@ -301,7 +301,7 @@ impl Hart {
     }
 
     /// Whether the hart has not stopped.
-    fn goes_on(&self) -> bool
+    pub(crate) fn goes_on(&self) -> bool
         ensures { result ≡ does_step self.now.outcome }
     {
         matches!(self.outcome, Outcome::Going)

@@ -136,6 +136,21 @@ distance_fires : (run drifted 52).outcome ≡ Fired
 unfolding execute jumped computed_value value holds
 distance_fires = ap (λ s. s.outcome) (runs 52 drifted refl refl refl)
 
+-- ---- in the start code the LUI gives 7 in x14: the check that the first tick calls fires
+abbrev unrooted : State
+unrooted = state_of lean_output (held 0 7 0 0 0 0) 0x1306c Going
+
+before_root : after_output lean_output zeros 26 ≡ state_of lean_output (held 0 0 0 0 0 0) 0x13068 Going
+unfolding execute jumped computed_value value holds loaded number_among gather number_bytes
+before_root = with_loads 26 refl
+
+root_slips : Stopped slip_steps unrooted ⊎ Comes 26 unrooted
+root_slips = others 26 _ _ (ins Lui 14 0 0 (pos 4096)) unrooted before_root refl (gives 7 (inl refl, inl refl) (omega arith) refl)
+
+root_fires : (run unrooted 15).outcome ≡ Fired
+unfolding execute jumped computed_value value holds
+root_fires = ap (λ s. s.outcome) (runs 15 unrooted refl refl refl)
+
 -- ---- the branch of the first tick goes the other way, past the check: the next tick calls it, and the run ends right
 abbrev unchecked : State
 unchecked = state_of lean_output (held 0 4096 2056 0x10000 0x10000 0x8080000000000000) 0x13170 Going

@@ -8,6 +8,8 @@ use Rattle.machine.specs.declared.outcome.Outcome.TheVariants.{Going, Ended, Fir
 use Rattle.machine.specs.Memory.{Memory, get}
 use Rattle.machine.specs.Step.{State, reg}
 use Rattle.machine.specs.Progress.{Progress}
+use Rattle.fault_inject.specs.declared.slips.Slipped.{Slipped}
+use Rattle.fault_inject.specs.declared.slips.Slipped.TheVariants.{At, NoSlip, NotReached}
 use Rattle.texts.specs.Printed.{hex_digits, hex_text, word_text}
 
 abbrev pub cause_text : Cause → List ℕ
@@ -69,6 +71,12 @@ abbrev pub jumps_line : Option (ℕ × ℕ) → List ℕ
 jumps_line None = codes "jumps reached\n"
 jumps_line (Some j) = codes "jump at " ++ (hex_text j.0 ++ (codes " to " ++ (hex_text j.1 ++ codes " not reached\n")))
 
--- a run with a text about jumps behind the outcome, which may be empty, and a dump
+-- what became of a slip
+abbrev pub slipped_line : Slipped → List ℕ
+slipped_line (At pc) = codes "slipped at " ++ (hex_text pc ++ codes "\n")
+slipped_line (NoSlip pc) = codes "no such slip at " ++ (hex_text pc ++ codes "\n")
+slipped_line NotReached = codes "slip not reached\n"
+
+-- a run with a second line behind the outcome, which may be empty, and a dump
 abbrev pub run_text : Progress → List ℕ → Option (ℕ × ℕ) → List ℕ
-run_text p jumps dump = outcome_line p ++ jumps ++ register_lines p.state 31 ++ dump_text p.state.memory dump
+run_text p second dump = outcome_line p ++ second ++ register_lines p.state 31 ++ dump_text p.state.memory dump

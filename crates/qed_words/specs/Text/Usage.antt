@@ -25,4 +25,5 @@ reason_line (reason.BadShape key) = keyed (codes "usage: bad shape ") key
 reason_line (reason.OutOfRange key) = keyed (codes "usage: out of range ") key
 reason_line reason.Split = codes "usage: split\n"
 reason_line reason.AllEntries = codes "usage: all entries\n"
+reason_line reason.SlipAndReached = codes "usage: slip and reached\n"
 reason_line (reason.FewSteps steps) = numbered (codes "usage: few steps ") steps

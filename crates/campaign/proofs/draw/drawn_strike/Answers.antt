@@ -1,8 +1,6 @@
 use Rattle.std.proofs.Common.{◌≡◌, ◌+◌, ◌*◌, map, refl, ap, ◌∙◌, arith}
-use Rattle.machine.proofs.Lemmas.{each_none}
-use Rattle.test_gen.proofs.RandomWords.{after-more}
+use Rattle.campaign.proofs.Drawing.{after-more, each_none, one_change}
 use Rattle.campaign.specs.Draw.{drawn_change, range_of, after, in_order}
-use Rattle.campaign.proofs.Drawing.{one_change}
 use Rattle.campaign.proofs.draw.drawn_strike.Goals as goal
 
 pub loop-init : goal.loop-init

@@ -1,9 +1,8 @@
 use Rattle.std.proofs.Common.{◌≡◌, ◌*◌, map, ap, ◌∙◌, subst, sym, arith}
 use Rattle.std.specs.Prelude.{All}
-use Rattle.machine.proofs.Lemmas.{each_none, push_each}
+use Rattle.campaign.proofs.Drawing.{drawn_all_fit, each_none, more_words, none_drawn, place_of_some, push_each}
 use Rattle.campaign.specs.Draw.{drawn_strike, strike_count, drawn_strikes, range_of, word_count, seeded, after, each}
 use Rattle.campaign.specs.Struck.{IsStrike}
-use Rattle.campaign.proofs.Drawing.{none_drawn, more_words, place_of_some, drawn_all_fit}
 use Rattle.campaign.proofs.draw.drawn_strikes.Goals as goal
 
 pub loop-init : goal.loop-init

@@ -1,4 +1,4 @@
-use Rattle.std.proofs.Common.{◌+◌, ◌-◌, refl, sym, ◌∙◌, arith}
+use Rattle.std.proofs.Common.{◌-◌, refl, sym, ◌∙◌, arith}
 use Rattle.machine.specs.Sets.{has_address}
 use Rattle.fault_inject.proofs.Straying.{states, in_none, made_next, step_next, stopped_all, stopped_first}
 use Rattle.fault_inject.proofs.watch.watch_on.Goals as goal
