@@ -72,6 +72,8 @@ def read(name):
         raise NotWhole(getattr(error, "strerror", None) or "not text") from None
     last = LAST.fullmatch(lines[-1]) if lines else None
     if not last:
+        if lines and lines[-1].startswith("slips "):
+            raise NotWhole("about slips, not strikes")
         raise NotWhole(lines[-1] if lines and lines[-1].startswith("input trapped") else "no last line")
     strikes = [Strike(line) for line in lines[:-1]]
     if [strike.number for strike in strikes] != list(range(int(last[1]))):
