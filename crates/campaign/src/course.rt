@@ -189,7 +189,9 @@ impl Course {
         ensures told { IfOk result (λ _. told progress.new ≡ draws.now.count) }
         ensures all { IfOk result (λ _. all progress.new ≡ draws.now.count) }
     {
-        let slipping = self.runs.slipping(alloc, &self.plan, results);
+        // About one of eight instructions is a store.
+        let trace = self.runs.traced(alloc, draws.count / 8)?;
+        let slipping = self.runs.slipping(alloc, &trace, &self.plan, results);
         slipping.slips(draws, progress)
     }
 }

@@ -25,7 +25,7 @@ fn same_regs(a: &Machine, b: &Machine) -> bool
 
 /// The byte at an address; 0 if there is none.
 #[tactic(auto, unfolding(machine::specs::Memory::byte_at))]
-fn byte(machine: &Machine, address: u64) -> u8
+pub(crate) fn byte(machine: &Machine, address: u64) -> u8
     ensures { result ≡ byte_at machine.now.state.memory address }
 {
     match machine.byte(address) {

@@ -52,9 +52,6 @@ impl Model for Runs {
     ghost invariant = { λ r. 1 ≤ r.output.reach };
 }
 
-/// Tracing one step pays off if strikes may take this many.
-const TRACED: u64 = 100;
-
 /// Whether a place is a word.
 fn is_word(place: &Place) -> bool
     ensures { result ≡ is_word_of place.now }
@@ -166,20 +163,32 @@ impl Runs {
         self.output.at(number)
     }
 
+    /// What the output's run touches, for the changes of so many words.
+    pub(crate) fn traced(&self, alloc: Global, words: u64) -> Result<Trace, AllocError>
+        ensures { IfOk result (IsTrace self.now.output) }
+    {
+        let steps = words.saturating_mul(self.bounds.word.unwrap_or(0));
+        let trace = self.output.traced(alloc, steps)?;
+        Ok(trace)
+    }
+
     /// Makes ready for slips of an output with this plan.
     pub(crate) fn slipping<'a>(
         &'a self,
         alloc: Global,
+        trace: &'a Trace,
         plan: &'a Plan,
         results: bool,
     ) -> Slipping<'a>
         ensures runs { (result.input.now ≡ self.now.input) × (result.output.now ≡ record { start = self.now.output; reach = self.now.reach }) }
+        ensures trace { result.trace.now ≡ trace.now }
         ensures plan { (result.plan.now ≡ plan.now) × (result.results ≡ results) }
     {
         Slipping {
             alloc,
             input: &self.input,
             output: &self.output,
+            trace,
             plan,
             results,
         }
@@ -259,20 +268,6 @@ impl Runs {
         }
     }
 
-    /// What the output's run touches, up to its reach; nothing is traced if there are too few strikes.
-    fn traced(&self, alloc: Global, strikes: &[Changes]) -> Result<Trace, AllocError>
-        ensures { IfOk result (IsTrace self.now.output) }
-    {
-        let reach = self.output.reach();
-        let steps = count_words(strikes).saturating_mul(self.bounds.word.unwrap_or(0));
-        if reach < SPACING || steps / TRACED < reach {
-            return Ok(Trace::none(alloc));
-        }
-        let mut machine = self.output.machine_at(alloc, 0)?;
-        let trace = Trace::of(alloc, &mut machine, reach)?;
-        Ok(trace)
-    }
-
     /// The verdicts of strikes, made in the order of their first changes, so that the output goes
     /// along its run once. None for one whose input traps; behind that, any verdict may be None.
     fn verdicts(
@@ -289,7 +284,8 @@ impl Runs {
     {
         progress.begin(strikes.len() as u64);
         let order = in_order(alloc, strikes)?;
-        let trace = self.traced(alloc, strikes)?;
+        let words = count_words(strikes);
+        let trace = self.traced(alloc, words)?;
         let mut found = vec![in alloc; None; strikes.len()]?;
         let mut output = self.output.machine_at(alloc, 0)?;
         let mut made = 0;

@@ -1,23 +1,26 @@
 //! Slips that are drawn at random, and what each shows.
-ghost use Rattle.std.specs.Prelude.{◌≡◌, ◌&&◌, ◌+◌, ◌*◌, ◌<◌, nat_lt, Some, None, IfOk, IfSome, if◌then◌else◌, length, map};
+ghost use Rattle.std.specs.Prelude.{◌≡◌, ◌&&◌, ◌+◌, ◌*◌, ◌^◌, ◌<◌, nat_lt, Some, None, IfOk, IfSome, if◌then◌else◌, length, map};
 ghost use Rattle.tests.specs.Admission.DataRanges.{range_of};
 ghost use Rattle.tests.specs.Admission.Terms.{is_in_any as is_in_any_of};
 ghost use Rattle.machine.specs.Step.{class_of, place, run};
 ghost use Rattle.test_gen.specs.Random.{after};
 ghost use Rattle.rv_step.specs.Known.{known_at};
 ghost use Rattle.rv_step.specs.Slipped.{slipped_step};
+ghost use Rattle.fault_inject.specs.Touched.{IsTrace};
 ghost use Rattle.campaign.specs.Draw.{each};
+ghost use Rattle.campaign.specs.Found.{TellsStop};
+ghost use Rattle.campaign.specs.Later.{IsChangedAt};
 ghost use Rattle.campaign.specs.Slips.{AreDrawnSlips, IsSlip, ShowsSlip, StandsEnded, AreKnownSlips, bound_of_slip, ended_right, numbered_slip};
 ghost use Rattle.campaign.specs.Slips.{drawn_slip as drawn_slip_of, drawn_way as drawn_way_of, ends_as as ends_as_of, gives_result as gives_result_of, other_place as other_place_of};
 ghost use Rattle.campaign.specs.Slips.{branch_way as branch_way_of, result_way as result_way_of, stop_verdict as stop_verdict_of, store_way as store_way_of, way_of as way_of_class};
 
 use crate::draw::{drawn_step, word_address};
-use crate::right::same_values;
+use crate::right::{byte, same_values};
 use crate::snapshots::Snapshots;
-use crate::stop::steps_to_stop;
+use crate::strike::Strike;
 use crate::watched::Watched;
-use fault_inject::{Progress, SlipFound, SlipVerdict};
-use qed_model::{Aim, Bounds, Draws, Outcome, Plan, Range};
+use fault_inject::{Progress, SlipFound, SlipVerdict, Trace};
+use qed_model::{Aim, Bounds, Draws, Outcome, Place, Plan, Range};
 use rand_pcg::Pcg64;
 use rv_isa::{Class, Ins};
 use rv_step::{Machine, Slip, SlipAt};
@@ -181,19 +184,24 @@ fn stop_verdict(outcome: Outcome, steps: u64) -> SlipVerdict
     }
 }
 
-/// Makes the step with a slip, and more until the machine stops or the bound is over. Says what that shows.
-fn shown(machine: &mut Machine, slip: &Slip, bound: u64) -> Result<SlipVerdict, AllocError>
-    ensures shows { IfOk result (ShowsSlip machine.old.state slip.now bound) }
-    ensures ended { IfOk result (StandsEnded (run (slipped_step slip.now machine.old.state)) machine.new.state) }
-{
-    if machine.outcome() != Outcome::Going {
-        return Ok(SlipVerdict::NotReached);
+/// The most pages that are compared for one store.
+const MOST_PAGES: u64 = 64;
+
+/// The address of the word that the next step stores to, if it is a store.
+fn stored_word(output: &Machine) -> Option<u64> {
+    match output.next() {
+        Some(ins) if matches!(ins.class(), Class::Store) => Some(place_of(output, &ins) & !7),
+        _ => None,
     }
-    machine.slip(slip)?;
-    let Some(steps) = steps_to_stop(machine, 0, bound)? else {
-        return Ok(SlipVerdict::Going);
-    };
-    Ok(stop_verdict(machine.outcome(), steps))
+}
+
+/// The number in the eight bytes from an address on.
+fn number_at(machine: &Machine, address: u64) -> u64 {
+    let mut number = 0;
+    for place in 0..8 {
+        number |= u64::from(byte(machine, address.wrapping_add(place))) << (8 * place);
+    }
+    number
 }
 
 /// What slips are made in.
@@ -202,12 +210,102 @@ pub struct Slipping<'a> {
     pub alloc: Global,
     pub input: &'a Watched,
     pub output: &'a Snapshots,
+    /// What the output's run touches.
+    pub trace: &'a Trace,
     pub plan: &'a Plan,
     /// Whether it is asked if each ended right.
     pub results: bool,
 }
 
 impl<'a> Slipping<'a> {
+    /// The address and the number of a word, if that alone tells a machine behind a wrong store from the output behind
+    /// the right one. None if more may differ.
+    fn other_word(
+        &self,
+        output: &Machine,
+        machine: &Machine,
+    ) -> Result<Option<(u64, u64)>, AllocError>
+        ensures { IfOk result (λ word. IsChangedAt (run output.now.state 1) word machine.now.state) }
+    {
+        let Some(address) = stored_word(output) else {
+            return Ok(None);
+        };
+        let number = number_at(machine, address);
+        let mut right = output.copy(self.alloc)?;
+        right.run(1)?;
+        right.strike(&Place::Word(address), number)?;
+        if machine.is_beside(&right, MOST_PAGES) {
+            return Ok(Some((address, number)));
+        }
+        Ok(None)
+    }
+
+    /// The run behind a slip at a step, beside the output's own.
+    fn behind(&self, step: u64, bound: u64) -> Strike<'a>
+        ensures way { result.way.now ≡ self.now.output.now }
+        ensures trace { result.trace.now ≡ self.now.trace.now }
+        ensures start { step + 1 < 2 ^ 64 → result.start ≡ step + 1 }
+        ensures bound { result.bound ≡ bound }
+    {
+        Strike {
+            alloc: self.alloc,
+            way: self.output,
+            trace: self.trace,
+            start: step.saturating_add(1),
+            changes: &[],
+            bound,
+        }
+    }
+
+    /// The steps that a machine behind a slip makes until it stops, up to the bound. None if it goes on. `output` stands
+    /// at the step of the slip.
+    fn steps_behind(
+        &self,
+        output: &Machine,
+        step: u64,
+        machine: &mut Machine,
+        bound: u64,
+    ) -> Result<Option<u64>, AllocError>
+        requires trace { IsTrace self.now.output.now.start self.now.trace.now }
+        requires there { output.now.state ≡ run self.now.output.now.start step }
+        ensures { IfOk result (TellsStop machine.old.state bound machine.new.state) }
+    {
+        let behind = self.behind(step, bound);
+        if step < u64::MAX {
+            if let Some((address, number)) = self.other_word(output, machine)? {
+                let steps = behind.steps_spared(machine, address, number)?;
+                return Ok(steps);
+            }
+        }
+        let steps = behind.steps_beside(machine, 0)?;
+        Ok(steps)
+    }
+
+    /// Makes the step with a slip, and more until the machine stops or the bound is over. Returns what that shows, and
+    /// the machine.
+    fn shown(
+        &self,
+        output: &Machine,
+        at: &SlipAt,
+        bound: u64,
+    ) -> Result<(SlipVerdict, Machine), AllocError>
+        requires trace { IsTrace self.now.output.now.start self.now.trace.now }
+        requires there { output.now.state ≡ run self.now.output.now.start at.now.step }
+        ensures shows { IfOk result (λ r. ShowsSlip output.now.state at.now.slip bound r.0) }
+        ensures ended { IfOk result (λ r. StandsEnded (run (slipped_step at.now.slip output.now.state)) r.1.state r.0) }
+    {
+        let mut machine = output.copy(self.alloc)?;
+        if machine.outcome() != Outcome::Going {
+            return Ok((SlipVerdict::NotReached, machine));
+        }
+        machine.slip(&at.slip)?;
+        let Some(steps) = self.steps_behind(output, at.step, &mut machine, bound)? else {
+            return Ok((SlipVerdict::Going, machine));
+        };
+        let verdict = stop_verdict(machine.outcome(), steps);
+        Ok((verdict, machine))
+    }
+
     /// Whether the input has ended after `step + 1 + more` steps, with the values of this machine.
     #[tactic(auto, unfolding(crate::specs::Slips::ends_as))]
     fn ends_as(&self, output: &Machine, step: u64, more: u64) -> Result<bool, AllocError>
@@ -245,17 +343,18 @@ impl<'a> Slipping<'a> {
 
     /// What a slip shows of the output, which stands at its step.
     fn found(&self, output: &Machine, words: &DrawnSlip) -> Result<SlipFound, AllocError>
+        requires trace { IsTrace self.now.output.now.start self.now.trace.now }
+        requires there { output.now.state ≡ run self.now.output.now.start words.now.step }
         ensures { IfOk result (IsSlip self.now.plan.now self.now.input.now output.now.state self.now.results words.now) }
     {
         let slip = drawn_way(self.plan, output, words);
         let bound = bound_of(&self.plan.bounds, output.next());
-        let mut machine = output.copy(self.alloc)?;
-        let verdict = shown(&mut machine, &slip, bound)?;
-        let right = self.right(&machine, words.step, verdict)?;
         let at = SlipAt {
             step: words.step,
             slip,
         };
+        let (verdict, machine) = self.shown(output, &at, bound)?;
+        let right = self.right(&machine, words.step, verdict)?;
         Ok(SlipFound { at, verdict, right })
     }
 
@@ -265,6 +364,7 @@ impl<'a> Slipping<'a> {
         slips: &[DrawnSlip],
         progress: &mut dyn Progress,
     ) -> Result<Vec<Option<SlipFound>>, AllocError>
+        requires { IsTrace self.now.output.now.start self.now.trace.now }
         ensures known { IfOk result (λ known. AreKnownSlips self.now.plan.now self.now.input.now self.now.output.now.start self.now.results slips.now known.items) }
         ensures count { IfOk result (λ known. length known.items ≡ length slips.now) }
         ensures told { IfOk result (λ _. told progress.new ≡ length slips.now) }
@@ -296,7 +396,8 @@ impl<'a> Slipping<'a> {
         known: Option<SlipFound>,
         words: &DrawnSlip,
     ) -> Result<SlipFound, AllocError>
-        requires { IfSome known (IsSlip self.now.plan.now self.now.input.now (run self.now.output.now.start words.now.step) self.now.results words.now) }
+        requires trace { IsTrace self.now.output.now.start self.now.trace.now }
+        requires known { IfSome known (IsSlip self.now.plan.now self.now.input.now (run self.now.output.now.start words.now.step) self.now.results words.now) }
         ensures { IfOk result (IsSlip self.now.plan.now self.now.input.now (run self.now.output.now.start words.now.step) self.now.results words.now) }
     {
         if let Some(found) = known {
@@ -313,6 +414,7 @@ impl<'a> Slipping<'a> {
         draws: &Draws,
         progress: &mut dyn Progress,
     ) -> Result<Vec<SlipFound>, AllocError>
+        requires { IsTrace self.now.output.now.start self.now.trace.now }
         ensures slips { IfOk result (λ found. AreDrawnSlips self.now.plan.now self.now.input.now self.now.output.now.start self.now.output.now.reach draws.now self.now.results found.items) }
         ensures told { IfOk result (λ _. told progress.new ≡ draws.now.count) }
         ensures all { IfOk result (λ _. all progress.new ≡ draws.now.count) }

@@ -1,8 +1,10 @@
 //! Copies of a machine on its way.
 ghost use Rattle.std.specs.Prelude.{◌≡◌, ◌↔◌, ◌+◌, ◌-◌, ◌*◌, ◌≤◌, IfOk, IfSome, IsNone};
 ghost use Rattle.machine.specs.Step.{run};
+ghost use Rattle.fault_inject.specs.Touched.{IsTrace};
 ghost use Rattle.campaign.specs.Kept.{AreCopies, IsReach, copies_up_to};
 
+use fault_inject::Trace;
 use rv_step::Machine;
 use std::alloc::{AllocError, Global};
 use std::marker::Model;
@@ -15,6 +17,9 @@ const MAX_REACH: u64 = 1_000_000;
 
 /// The most copies behind the first.
 const MOST: u64 = MAX_REACH / SPACING;
+
+/// Tracing one step pays off if the runs beside may make this many.
+const TRACED: u64 = 100;
 
 /// A machine, copies of it after every 4,096 steps, and the number of steps after which it stops;
 /// 1,000,000 if that is greater or it never stops.
@@ -128,5 +133,17 @@ impl Snapshots {
         }
         *machine = self.machine_at(alloc, steps)?;
         Ok(())
+    }
+
+    /// What the run touches, up to its reach. Nothing is traced if the runs beside it make too few steps.
+    pub fn traced(&self, alloc: Global, steps: u64) -> Result<Trace, AllocError>
+        ensures { IfOk result (IsTrace self.now.start) }
+    {
+        if self.reach < SPACING || steps / TRACED < self.reach {
+            return Ok(Trace::none(alloc));
+        }
+        let mut machine = self.machine_at(alloc, 0)?;
+        let trace = Trace::of(alloc, &mut machine, self.reach)?;
+        Ok(trace)
     }
 }
