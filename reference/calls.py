@@ -103,9 +103,11 @@ def plan_text(done: Transformed) -> str:
         for length in block.pieces:
             pieces.append([block.start, first, length])
             first += 4 * length
+    bounds = woven.bounds
+    early = {} if bounds.early_register is None else {"early_register": bounds.early_register, "early_word": bounds.early_word}
     plan = {
         "base": done.test.base,
-        "bounds": {"piece": woven.bounds.piece, "register": woven.bounds.register, "word": woven.bounds.word},
+        "bounds": {**early, "piece": bounds.piece, "register": bounds.register, "word": bounds.word},
         "code": 4 * len(woven.words),
         "entries": sorted(list(row) for row in woven.entries.items()),
         "half": done.test.distance,

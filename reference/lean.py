@@ -259,10 +259,11 @@ class Lean:
         passes = entry_steps(options.land)
         calls = passes + (1 if options.land else 3)
         period = check + options.lean + calls
-        last = 53 + calls + ends
-        word = last + (-(-words // options.round) + 1) * period if words else None
+        early = 53 + calls
+        visits = (-(-words // options.round) + 1) * period
+        word, early_word = (early + ends + visits, early + visits) if words else (None, None)
         longest = LEAVE_STEPS + passes + calls + check + instruction_steps(options.diverse) * options.inst_max
-        return Bounds(longest, last + period, word, 31 + ends)
+        return Bounds(longest, early + ends + period, word, 31 + ends, early + period, early_word)
 
 
 def weave_lean(test: Test, options: Options, blocks: List[Block]) -> Woven:

@@ -295,6 +295,8 @@ class Bounds:
     register: int
     word: Optional[int]
     start: int
+    early_register: Optional[int] = None
+    early_word: Optional[int] = None
 
 
 def bounds(words: int, ranges: int, options: Options, far: bool) -> Bounds:

@@ -66,12 +66,16 @@ pub fn lean_bounds(shape: &Shape, every: u64) -> Option<Bounds>
     let piece = piece(shape, check)?;
     let start = fitting(31 + end(shape))?;
     let period = period(shape, check, every)?;
-    let first = 22 + call(shape) + u128::from(start);
+    let early = 53 + call(shape);
+    let first = early + end(shape);
     let register = fitting(first + u128::from(period))?;
-    if shape.words == 0 {
-        return Some(told(piece, register, None, start));
+    let mut bounds = told(piece, register, None, start);
+    bounds.early_register = Some(fitting(early + u128::from(period))?);
+    if shape.words > 0 {
+        let checks = fitting(checks(shape.words, shape.round))?;
+        let visits = u128::from(checks) * u128::from(period);
+        bounds.word = Some(fitting(first + visits)?);
+        bounds.early_word = Some(fitting(early + visits)?);
     }
-    let checks = fitting(checks(shape.words, shape.round))?;
-    let word = fitting(first + u128::from(checks) * u128::from(period))?;
-    Some(told(piece, register, Some(word), start))
+    Some(bounds)
 }

@@ -73,15 +73,17 @@ fn pieces(words: u64, round: u64) -> u128
     (u128::from(words) + u128::from(round) - 1) / u128::from(round) + 2
 }
 
-/// Bounds with these numbers.
+/// Bounds with these numbers, without any for early changes.
 pub(crate) fn told(most: u64, changed: u64, visited: Option<u64>, first: u64) -> Bounds
-    ensures { result ≡ record { piece = most; register = changed; word = visited; start = first } }
+    ensures { result ≡ record { piece = most; register = changed; word = visited; start = first; early_register = None; early_word = None } }
 {
     Bounds {
         piece: most,
         register: changed,
         word: visited,
         start: first,
+        early_register: None,
+        early_word: None,
     }
 }
 

@@ -12,7 +12,7 @@ use Rattle.tests.specs.Elf.FileRead.{file_read}
 use Rattle.tests.specs.Elf.Layout.{written, IsWritable}
 use Rattle.tests.specs.Elf.Sound.{IsSound}
 use Rattle.machine.specs.Loading.{loaded_file}
-use Rattle.qed_model.specs.Promise.InStep.{CaughtInStep, CleanInStep, LandedInStep}
+use Rattle.qed_model.specs.Promise.InStep.{CaughtInStep, CaughtEarly, CleanInStep, LandedInStep}
 use Rattle.qed_model.specs.Promise.OwnSteps.{KeptInStep}
 use Rattle.qed_model.specs.Weave.Blocks.{AreBlocks, Options}
 use Rattle.qed_model.specs.Weave.OutputFile.{file_of}
@@ -79,6 +79,14 @@ LeanTestsCaught =
     (f : ElfFile) (o : Options) (every : ℕ) (blocks : List Block) (words : List ℕ)
     → IsLeanTest f o every blocks words → (reached : ℕ → Bool) → AreReached f o reached
     → CaughtInStep (loaded_file f) (loaded_file (file_read (lean_file f o every blocks words))) reached (data_ranges (image_of f))
+    (lean_bounds f o every) (lean_bounds f o every).start (lean_bounds f o every).piece
+
+-- early ones within their own bounds
+abbrev pub LeanTestsCaughtEarly : Type 0
+LeanTestsCaughtEarly =
+    (f : ElfFile) (o : Options) (every : ℕ) (blocks : List Block) (words : List ℕ)
+    → IsLeanTest f o every blocks words → (reached : ℕ → Bool) → AreReached f o reached
+    → CaughtEarly (loaded_file f) (loaded_file (file_read (lean_file f o every blocks words))) reached (data_ranges (image_of f))
     (lean_bounds f o every) (lean_bounds f o every).start (lean_bounds f o every).piece
 
 -- a wrong result of an instruction is caught

@@ -1,5 +1,5 @@
 -- The lean form as a weave, and what is asked of the words and the table that it is woven in.
-use Rattle.std.specs.Prelude.{◌≡◌, ℕ, ◌+◌, ◌*◌, ◌%◌, ◌^◌, ◌<◌, ◌≤◌, Bool, true, false, cond, ◌==◌, ◌&&◌, ◌||◌, nat_le, List, [], ◌∷◌, length}
+use Rattle.std.specs.Prelude.{◌≡◌, ℕ, ◌+◌, ◌*◌, ◌%◌, ◌^◌, ◌<◌, ◌≤◌, Bool, true, false, cond, ◌==◌, ◌&&◌, ◌||◌, nat_le, Some, List, [], ◌∷◌, length}
 use Rattle.tests.specs.Admission.DataRanges.{word_count}
 use Rattle.tests.specs.Admission.Leaders.{is_indirect}
 use Rattle.qed_model.specs.Weave.Bounds.{end_bound}
@@ -9,7 +9,7 @@ use Rattle.qed_model.specs.Weave.Sequences.{Reads, End, Falls, Stops, Block}
 use Rattle.qed_model.specs.Promise.Kept.{Kept}
 use Rattle.qed_model.specs.Promise.OwnSteps.{KeptInStep}
 use Rattle.qed_model.specs.Promise.Landed.{IsEntry}
-use Rattle.qed_model.specs.Promise.InStep.{CaughtInStep, CleanInStep, LandedInStep}
+use Rattle.qed_model.specs.Promise.InStep.{CaughtInStep, CaughtEarly, CleanInStep, LandedInStep}
 use Rattle.qed_model.specs.declared.plan.EntryRow.{EntryRow}
 use Rattle.qed_model.specs.Weave.Blocks.{begins_at}
 use Rattle.qed_model.specs.Weave.Code.{code_of}
@@ -137,14 +137,23 @@ abbrev pub LeanKeptInStep : Type 0
 LeanKeptInStep = (f g : Program) (w : World) (l : Lean) (blocks : List Block) → LeanPlan f g w l blocks
     → KeptInStep f g w.reached w.distance (lean_start_of w) (lean_piece_of w l)
 
+-- the bounds of changes; those of early ones have no steps before the end
 pub record IsLeanBoundsOf (w : World) (l : Lean) (bounds : Bounds) : Type 0 where
   pub register : bounds.register ≡ register_bound l.land (swept_steps w) (period l.land (check_steps w) l.every)
   pub word : bounds.word ≡ word_bound l.land (word_count w.form.spans) w.form.round (swept_steps w) (period l.land (check_steps w) l.every)
+  pub early_register : bounds.early_register ≡ Some (register_bound l.land 0 (period l.land (check_steps w) l.every))
+  pub early_word : bounds.early_word ≡ word_bound l.land (word_count w.form.spans) w.form.round 0 (period l.land (check_steps w) l.every)
 
 -- in a plan changes are caught
 abbrev pub LeanCaught : Type 0
 LeanCaught = (f g : Program) (w : World) (l : Lean) (blocks : List Block) (bounds : Bounds) → LeanPlan f g w l blocks → 1 ≤ w.form.round
     → IsLeanBoundsOf w l bounds → CaughtInStep f g w.reached w.form.spans bounds (lean_start_of w) (lean_piece_of w l)
+
+-- early ones within their own bounds
+abbrev pub LeanCaughtEarly : Type 0
+LeanCaughtEarly =
+    (f g : Program) (w : World) (l : Lean) (blocks : List Block) (bounds : Bounds) → LeanPlan f g w l blocks → 1 ≤ w.form.round
+    → IsLeanBoundsOf w l bounds → CaughtEarly f g w.reached w.form.spans bounds (lean_start_of w) (lean_piece_of w l)
 
 -- where entries test the signature, jumps land
 abbrev pub LeanLanded : Type 0

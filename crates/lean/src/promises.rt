@@ -1,8 +1,8 @@
 //! What is promised of the lean form.
-ghost use Rattle.lean.specs.Tests.{LeanTestsHaveWords, LeanTestsWritable, LeanTestsKept, LeanTestsCaught, LeanTestsFaults};
+ghost use Rattle.lean.specs.Tests.{LeanTestsHaveWords, LeanTestsWritable, LeanTestsKept, LeanTestsCaught, LeanTestsCaughtEarly, LeanTestsFaults};
 ghost use Rattle.lean.specs.Tests.{LeanTestsLanded, LeanTestsStrayed, LeanTestsDisplaced, LeanTestsAdrift, LeanTestsUndisturbed, LeanTestsNoSilentSlip, LeanTestsClean};
 ghost use Rattle.lean.specs.Tests.{LeanTestsPlaces, LeanTestsFaultsClean, LeanTestsNoWrongEnd};
-ghost use Rattle.lean.specs.Woven.{LeanKept, LeanKeptInStep, LeanCaught, LeanLanded, LeanStrayed, LeanDisplaced, LeanAdrift, LeanUndisturbed, LeanClean};
+ghost use Rattle.lean.specs.Woven.{LeanKept, LeanKeptInStep, LeanCaught, LeanCaughtEarly, LeanLanded, LeanStrayed, LeanDisplaced, LeanAdrift, LeanUndisturbed, LeanClean};
 
 /// A plan of the form keeps the input's values, with a bound on the steps of the output for each step of the input, and
 /// no check fires without changes.
@@ -19,6 +19,11 @@ pub fn lean_kept_in_step()
 /// In a plan of the form changes of original registers and data words at open places are caught within the bounds.
 pub fn lean_caught()
     ensures { LeanCaught }
+{}
+
+/// Early changes, behind which the output goes on for the steps of its bounds, are caught within the bounds of early ones.
+pub fn lean_caught_early()
+    ensures { LeanCaughtEarly }
 {}
 
 /// In a plan of the form whose entries test the signature a jump from one entry to another fires.
@@ -72,6 +77,11 @@ pub fn lean_tests_kept()
 /// Changes in the file are caught.
 pub fn lean_tests_caught()
     ensures { LeanTestsCaught }
+{}
+
+/// Early changes in the file are caught within the bounds of early ones.
+pub fn lean_tests_caught_early()
+    ensures { LeanTestsCaughtEarly }
 {}
 
 /// A wrong result of an instruction of the test is caught, as changes behind it.

@@ -10,7 +10,7 @@ pub use Rattle.lockstep.proofs.Cleaned.{CleanAll, clean_of, cleaned}
 pub use Rattle.lockstep.proofs.Weaves.{all_blocks, weave_caught, weave_clean}
 pub use Rattle.lockstep.proofs.Tests.{tests_caught, tests_clean}
 pub use Rattle.lockstep.proofs.Coded.{WordAt, reads_rest, stub_open, stub_words, word_of}
-pub use Rattle.lockstep.proofs.Promise.{BoundsBy, CaughtAll, Times, caught_of, settles, settles_all}
+pub use Rattle.lockstep.proofs.Promise.{BoundsBy, CaughtAll, Times, caught_of, settles, settles_all, settles_early}
 pub use Rattle.lockstep.proofs.FormWords.{caught_with, form_words, visits_ten}
 pub use Rattle.lockstep.proofs.InstructionFaults.{faults_clean, faults_found, instruction_faults_are_caught, places_found, tests_faults_clean, tests_places}
 pub use Rattle.lockstep.proofs.WrongTurns.{tests_turned}

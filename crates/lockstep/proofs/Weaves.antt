@@ -90,10 +90,10 @@ module _ (f g : Program) (w : World) (v : Weave) (blocks : List Block) (plan : P
   times = record { words = refl; same = λ h. round_some (word_count w.form.spans) v.round h; some = some; big = omega (arith, room); fits = omega arith }
 
   -- the bounds by them
-  by : (bounds : Bounds) → BoundsOf w v bounds → BoundsBy w z v.round v.first_steps bounds
+  by : (bounds : Bounds) → BoundsOf w v bounds → BoundsBy w z v.round v.first_steps v.end_steps bounds.register bounds.word
   by bounds are = record {
-    register = let r = are.register in omega (arith, r);
-    word = λ h. are.word ∙ word_bound_is (word_count w.form.spans) v.round (most_before_start v) (stage_steps v) h ∙ ap Some (omega arith);
+    of_register = let r = are.register in omega (arith, r);
+    of_word = λ h. are.word ∙ word_bound_is (word_count w.form.spans) v.round (most_before_start v) (stage_steps v) h ∙ ap Some (omega arith);
   }
 
   -- changes are caught

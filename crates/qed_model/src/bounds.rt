@@ -32,4 +32,10 @@ pub struct Bounds {
     pub word: Option<u64>,
     /// The steps before the first entry, and those before the end.
     pub start: u64,
+    /// In the lean form, the steps until an early change of a register is seen, or gone: the
+    /// output still goes on `register` steps behind it.
+    pub early_register: Option<u64>,
+    /// In the lean form, the steps until an early change of a data word is seen, or gone: the
+    /// output still goes on `word` steps behind it. None without data words.
+    pub early_word: Option<u64>,
 }

@@ -19,5 +19,12 @@ pieces_whole : (rows : List PieceRow) → items_have_float (items_of (map piece_
 pieces_whole [] = refl
 pieces_whole (row ∷ rows) = pieces_whole rows
 
+early_whole : (early word : Option ℕ) (rest : Members) → members_have_float rest ≡ false → members_have_float (early_members early word rest) ≡ false
+early_whole None word rest e = e
+early_whole (Some n) word rest e = rw (bound_whole word) e
+
 pub plan_whole : (plan : Plan) → has_float (plan_data plan) ≡ false
-plan_whole plan = rw (bound_whole plan.bounds.word, entries_whole plan.entries, pieces_whole plan.pieces) refl
+plan_whole plan =
+    let b = plan.bounds in
+    let others : members_have_float (member (codes "piece") (count_data b.piece) (member (codes "register") (count_data b.register) (member (codes "word") (bound_data b.word) no_members))) ≡ false = rw (bound_whole b.word) refl in
+    rw (early_whole b.early_register b.early_word _ others, entries_whole plan.entries, pieces_whole plan.pieces) refl

@@ -16,12 +16,17 @@ abbrev pub bound_data : Option ℕ → Data
 bound_data None = null
 bound_data (Some bound) = count_data bound
 
+-- the bounds of early changes, if there are any
+abbrev pub early_members : Option ℕ → Option ℕ → Members → Members
+early_members None word rest = rest
+early_members (Some register) word rest = member (codes "early_register") (count_data register) (member (codes "early_word") (bound_data word) rest)
+
 -- the bounds, in steps
 abbrev pub bounds_data : Bounds → Data
 bounds_data bounds =
-    object (member (codes "piece") (count_data bounds.piece)
+    object (early_members bounds.early_register bounds.early_word (member (codes "piece") (count_data bounds.piece)
     (member (codes "register") (count_data bounds.register)
-    (member (codes "word") (bound_data bounds.word) no_members)))
+    (member (codes "word") (bound_data bounds.word) no_members))))
 
 -- the address of a leader in the input, and that of its entry in the output
 abbrev pub entry_data : EntryRow → Data

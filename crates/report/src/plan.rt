@@ -10,11 +10,15 @@ use qed_model::{Bounds, EntryRow, PieceRow, Plan};
 use serde_json::{Map, Value, json, put};
 use std::alloc::{AllocError, Global};
 
-/// The bounds; that of a word only if there are data words.
+/// The bounds; those of words only if there are data words, those of early changes only in the lean form.
 fn bounds_value(alloc: Global, bounds: &Bounds) -> Result<Value, AllocError>
     ensures { IfOk result (λ v. view v ≡ bounds_data bounds.now) }
 {
-    json!(in alloc; {"piece": bounds.piece, "register": bounds.register, "word": bounds.word})
+    match bounds.early_register {
+        Some(early) => json!(in alloc; {"early_register": early, "early_word": bounds.early_word,
+            "piece": bounds.piece, "register": bounds.register, "word": bounds.word}),
+        None => json!(in alloc; {"piece": bounds.piece, "register": bounds.register, "word": bounds.word}),
+    }
 }
 
 /// The entries in their order, each as a pair.

@@ -72,7 +72,7 @@ loop_plan = record {
   entries = record { input = 0x10000; output = 0x13078 } ∷ record { input = 0x10004; output = 0x13104 } ∷ record { input = 0x1000c; output = 0x131b0 } ∷ [];
   pieces = record { entry = 0x10000; first = 0x10000; length = 1 } ∷ record { entry = 0x10004; first = 0x10004; length = 1 } ∷ record { entry = 0x1000c; first = 0x1000c; length = 0 } ∷ [];
   span = [];
-  bounds = record { piece = 120; register = 272; word = None; start = 32 };
+  bounds = record { piece = 120; register = 272; word = None; start = 32; early_register = None; early_word = None };
 }
 
 pub loop_told : IsToldOf (compared loop defaults loop_blocks) loop defaults loop_blocks loop_plan

@@ -129,7 +129,7 @@ abbrev pub spans : List (ℕ × ℕ)
 spans = (0x20000, 0x20008) ∷ []
 
 -- a change of a register is caught within 272 steps, one of the data word within 392
-store_caught : CaughtInStep store_input store_output any_address spans (record { piece = 120; register = 272; word = Some 392; start = 32 }) 32 120
+store_caught : CaughtInStep store_input store_output any_address spans (record { piece = 120; register = 272; word = Some 392; start = 32; early_register = None; early_word = None }) 32 120
 store_caught = tests_caught store defaults store_blocks store_words.0 store_plan store_words.1 store_told any_address (any_reached store defaults refl)
 
 -- with the sweep no change made before the last 24 steps is silent at the end
@@ -146,7 +146,7 @@ unfolding run
 word_settles = store_caught.settles zeros (nine ∷ []) 392 zeros_start tt (inl (refl, omega arith, omega arith), tt, tt) refl (covers_steady store_input store_output any_address 32 120 zeros 392 ((steady_any store_input 392).1 (store_calm 392 (omega arith)))) refl
 
 -- ---- a wrong instruction: the test's store stores 7, not 10
-store_faults : FaultsFound store_input store_output any_address spans (record { piece = 120; register = 272; word = Some 392; start = 32 }) 32 120
+store_faults : FaultsFound store_input store_output any_address spans (record { piece = 120; register = 272; word = Some 392; start = 32; early_register = None; early_word = None }) 32 120
 store_faults = instruction_faults_are_caught store defaults store_blocks store_words.0 store_plan store_words.1 store_told any_address (any_reached store defaults refl)
 
 abbrev new_code : List Ins

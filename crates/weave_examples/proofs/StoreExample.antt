@@ -65,7 +65,7 @@ store_plan = record {
   entries = record { input = 0x10000; output = 0x43080 } ∷ [];
   pieces = record { entry = 0x10000; first = 0x10000; length = 1 } ∷ record { entry = 0x10000; first = 0x10004; length = 2 } ∷ record { entry = 0x10000; first = 0x1000c; length = 1 } ∷ [];
   span = record { start = 0x20000; end = 0x20008 } ∷ [];
-  bounds = record { piece = 120; register = 272; word = Some 392; start = 32 };
+  bounds = record { piece = 120; register = 272; word = Some 392; start = 32; early_register = None; early_word = None };
 }
 
 pub store_told : IsToldOf (compared store defaults store_blocks) store defaults store_blocks store_plan

@@ -124,7 +124,7 @@ far_plan = record {
   entries = new_entries far_test far_options far_blocks;
   pieces = piece_rows far_blocks;
   span = record { start = 0x20000; end = 0x20008 } ∷ record { start = 0x21000; end = 0x21008 } ∷ [];
-  bounds = record { piece = 13470; register = 27007; word = Some 40477; start = 67 };
+  bounds = record { piece = 13470; register = 27007; word = Some 40477; start = 67; early_register = None; early_word = None };
 }
 
 -- ---- what is promised of it

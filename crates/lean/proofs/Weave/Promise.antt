@@ -1,13 +1,13 @@
 -- A plan of the lean form keeps the values, its code is calm, changes are caught, and the sweep leaves none silent.
-use Rattle.std.proofs.Common.{◌≡◌, ℕ, zero, suc, ◌+◌, ◌*◌, ◌^◌, ◌<◌, ◌≤◌, ◌⊎◌, ⊎_elim, Bool, true, false, List, [], ◌++◌, length, Some, refl, sym, ap, ◌∙◌, subst, arith, append_assoc, length-append}
+use Rattle.std.proofs.Common.{◌≡◌, ℕ, zero, suc, ◌+◌, ◌*◌, ◌^◌, ◌<◌, ◌≤◌, ◌⊎◌, ⊎_elim, Bool, true, false, List, [], ◌++◌, length, Option, Some, refl, sym, ap, ◌∙◌, subst, arith, append_assoc, length-append}
 use Rattle.std.proofs.lemmas.Bool.{cases_lt}
 use Rattle.rv_isa.specs.declared.class.Class.TheVariants as class
 use Rattle.qed_model.specs.declared.bounds.Bounds.{Bounds}
-use Rattle.tests.specs.Admission.DataRanges.{word_count}
+use Rattle.tests.specs.Admission.DataRanges.{word_count, word_address}
 use Rattle.machine.specs.Members.{Among}
-use Rattle.qed_model.specs.Promise.InStep.{CaughtInStep, CleanInStep}
+use Rattle.qed_model.specs.Promise.InStep.{CaughtInStep, CaughtEarly, CleanInStep}
 use Rattle.qed_model.specs.Promise.Kept.{Kept, after_output, Steady}
-use Rattle.qed_model.specs.Promise.OwnSteps.{KeptInStep}
+use Rattle.qed_model.specs.Promise.OwnSteps.{KeptInStep, Covers}
 use Rattle.qed_model.specs.Weave.Blocks.{begins_at}
 use Rattle.qed_model.specs.Weave.Code.{Sequences, entries_of}
 use Rattle.qed_model.specs.Weave.Pieces.{piece_count}
@@ -15,8 +15,8 @@ use Rattle.qed_model.specs.Weave.Placed.{instructions_from}
 use Rattle.qed_model.specs.Weave.Sequences.{Reads, Block, stub}
 use Rattle.qed_model.specs.Weave.Lean.{check, begin}
 use Rattle.qed_model.specs.Weave.LeanCode.{Lean, worded}
-use Rattle.qed_model.specs.Weave.LeanBounds.{cost_of, entry_steps, call_steps, period, word_bound}
-use Rattle.weave_core.specs.World.{World, Item, Program, Going, Ended, Known, HasAt, Ins, AreStartRegs, next, class_of}
+use Rattle.qed_model.specs.Weave.LeanBounds.{cost_of, entry_steps, call_steps, period, register_bound, word_bound}
+use Rattle.weave_core.specs.World.{World, Item, Program, Going, Ended, Known, HasAt, Ins, AreStartRegs, next, class_of, start as from_regs}
 use Rattle.weave_core.specs.KindItems.{LockItems, AllLand, OpenEntries, AllBlocks}
 use Rattle.weave_core.specs.Kinds.{opens}
 use Rattle.weave_core.specs.Lock.{Opens}
@@ -24,10 +24,10 @@ use Rattle.weave_core.specs.Leaving.{sweep_cost}
 use Rattle.weave_core.specs.Weave.{stage_steps, most_before_start}
 use Rattle.weave_core.specs.WeaveLaws.{EntriesAt}
 use Rattle.weave_core.proofs.Lemmas.{reads_front, instructions_then, reads_words, stub_opens, items_then, all_land_append, has_rest, opens_behind, length-instructions, WeaveIn, kept, in_step, feeds_at, quiet_before}
-use Rattle.lockstep.proofs.Lemmas.{round_some, CalmCode, loaded_at, CleanAll, clean_of, cleaned, faults_clean, faults_found, places_found, WordAt, stub_words, reads_rest, word_of, stub_open, Times, BoundsBy, CaughtAll, caught_of, settles_all, Sizes, all_blocks}
+use Rattle.lockstep.proofs.Lemmas.{round_some, CalmCode, loaded_at, CleanAll, clean_of, cleaned, faults_clean, faults_found, places_found, WordAt, stub_words, reads_rest, word_of, stub_open, Times, BoundsBy, CaughtAll, caught_of, settles_all, settles_early, Sizes, Trace, all_blocks}
 use Rattle.qed_model.specs.Promise.Faults.{FaultsFound, WritesOriginal}
 use Rattle.lockstep.specs.WrongOnce.{PlacesFound, FaultsClean}
-use Rattle.lean.specs.Woven.{LeanPlan, LeanKept, LeanKeptInStep, LeanCaught, LeanClean, IsLeanBoundsOf, lean_weave_of, check_steps, swept_steps, lean_start_of, lean_piece_of}
+use Rattle.lean.specs.Woven.{LeanPlan, LeanKept, LeanKeptInStep, LeanCaught, LeanCaughtEarly, LeanClean, IsLeanBoundsOf, lean_weave_of, check_steps, swept_steps, lean_start_of, lean_piece_of}
 use Rattle.lean.proofs.Weave.Beats.{sizes, traced, Bound, swept_end, swept_alone}
 use Rattle.lean.proofs.Weave.Begin.{lean_starts}
 use Rattle.lean.proofs.Weave.Cells.{Counts}
@@ -187,30 +187,52 @@ module _ (f g : Program) (w : World) (l : Lean) (blocks : List Block) (p : LeanP
   }
 
   -- ---- changes are caught
-  module _ (round : 1 ≤ w.form.round) (bounds : Bounds) (are : IsLeanBoundsOf w l bounds) where
+  module _ (round : 1 ≤ w.form.round) where
     abbrev z : Sizes
     z = sizes f g w l leader p.sound p.world entries counts p.begins p.ticked begins
 
     times : Times w z w.form.round
     times = record { words = refl; same = λ h. round_some (word_count w.form.spans) w.form.round h; some = round; big = omega arith; fits = omega arith }
 
-    by : BoundsBy w z w.form.round (31 + (entry_steps l.land + call_steps l.land)) bounds
-    by = record {
-      register = let r = are.register in omega (arith, r);
-      word = λ h. are.word ∙ word_some (word_count w.form.spans) h ∙ ap Some (sum (swept_steps w) ((piece_count w.form.round (word_count w.form.spans) + 1) * (check_steps w + (l.every + entry_steps l.land + call_steps l.land))));
+    -- the most steps to the first check
+    abbrev to_first : ℕ
+    to_first = 31 + (entry_steps l.land + call_steps l.land)
+
+    by :
+        (ends register : ℕ) (word : Option ℕ) → register ≡ register_bound l.land ends (period l.land (check_steps w) l.every)
+        → word ≡ word_bound l.land (word_count w.form.spans) w.form.round ends (period l.land (check_steps w) l.every) → BoundsBy w z w.form.round to_first (2 + ends) register word
+    by ends register word r is = record {
+      of_register = omega (arith, r);
+      of_word = λ h. is ∙ word_some (word_count w.form.spans) h ∙ ap Some (sum ends ((piece_count w.form.round (word_count w.form.spans) + 1) * (check_steps w + (l.every + entry_steps l.land + call_steps l.land))));
     } where
-      word_some : (n : ℕ) → 1 ≤ n → word_bound l.land n w.form.round (swept_steps w) (period l.land (check_steps w) l.every) ≡ Some (53 + entry_steps l.land + call_steps l.land + swept_steps w + (piece_count w.form.round n + 1) * (check_steps w + (l.every + entry_steps l.land + call_steps l.land)))
+      word_some : (n : ℕ) → 1 ≤ n → word_bound l.land n w.form.round ends (period l.land (check_steps w) l.every) ≡ Some (53 + entry_steps l.land + call_steps l.land + ends + (piece_count w.form.round n + 1) * (check_steps w + (l.every + entry_steps l.land + call_steps l.land)))
       word_some zero h = absurd (omega (arith, h))
       word_some (suc n) h = refl
 
       sum : (s n : ℕ) → 53 + entry_steps l.land + call_steps l.land + s + n ≡ 31 + (entry_steps l.land + call_steps l.land) + (2 + s) + (n + 20)
       sum s n = omega arith
 
+    -- the trace up to a step that is covered
+    trace_of : (regs : List ℕ) (start : AreStartRegs regs) (h : ℕ) → Covers f g w.reached before per regs h → Trace w.code (from_regs g regs) z (word_address w.form.spans) to_first h (Bound f g w l leader p.sound p.world entries counts p.begins p.ticked begins regs start)
+    trace_of regs start h c = traced f g w l leader p.sound p.world entries counts p.begins p.ticked begins regs start h (feeds_at f g w (lean_weave_of w l leader) leader woven regs h c)
+
+  module _ (round : 1 ≤ w.form.round) (bounds : Bounds) (are : IsLeanBoundsOf w l bounds) where
+    late : BoundsBy w (z round) w.form.round (to_first round) (2 + swept_steps w) bounds.register bounds.word
+    late = by round (swept_steps w) bounds.register bounds.word are.register are.word
+
+    -- early ones
+    pub catches_early : CaughtEarly f g w.reached w.form.spans bounds before per
+    catches_early = record {
+      settles = λ regs cs b c start ordered free bound wide covers going.
+          settles_early f g w before per calm regs start (z round) w.form.round (to_first round) (Bound f g w l leader p.sound p.world entries counts p.begins p.ticked begins regs start) (times round) (trace_of round regs start)
+          (2 + 0) (register_bound l.land 0 (period l.land (check_steps w) l.every)) bounds are.early_register (by round 0 _ bounds.early_word refl are.early_word) late cs b c ordered free bound wide covers going;
+    }
+
     catches_all : CaughtAll f g w before per bounds
     catches_all = record {
       settles = λ regs cs b start ordered free bound covers going.
-          settles_all f g w before per calm regs start z w.form.round (31 + (entry_steps l.land + call_steps l.land)) (Bound f g w l leader p.sound p.world entries counts p.begins p.ticked begins regs start) times
-          (λ h c. traced f g w l leader p.sound p.world entries counts p.begins p.ticked begins regs start h (feeds_at f g w (lean_weave_of w l leader) leader woven regs h c)) bounds by cs b ordered free bound covers going;
+          settles_all f g w before per calm regs start (z round) w.form.round (to_first round) (Bound f g w l leader p.sound p.world entries counts p.begins p.ticked begins regs start) (times round) (trace_of round regs start)
+          bounds late cs b ordered free bound covers going;
     }
 
     pub catches : CaughtInStep f g w.reached w.form.spans bounds before per
@@ -270,6 +292,9 @@ lean_in_step f g w l blocks p = subst (λ n. KeptInStep f g w.reached w.distance
 
 pub lean_caught : LeanCaught
 lean_caught f g w l blocks bounds p round are = subst (λ n. CaughtInStep f g w.reached w.form.spans bounds (lean_start_of w) n) (stage_is l (check_steps w) (cost_of l.diverse * l.inst_max)) (catches f g w l blocks p round bounds are)
+
+pub lean_caught_early : LeanCaughtEarly
+lean_caught_early f g w l blocks bounds p round are = subst (λ n. CaughtEarly f g w.reached w.form.spans bounds (lean_start_of w) n) (stage_is l (check_steps w) (cost_of l.diverse * l.inst_max)) (catches_early f g w l blocks p round bounds are)
 
 pub lean_faults :
     (f g : Program) (w : World) (l : Lean) (blocks : List Block) (bounds : Bounds) → LeanPlan f g w l blocks → 1 ≤ w.form.round → IsLeanBoundsOf w l bounds → FaultsFound f g w.reached w.form.spans bounds (lean_start_of w) (lean_piece_of w l)

@@ -27,7 +27,7 @@ use Rattle.weave_core.specs.Blocks.{IsEntryOf, TableAt}
 use Rattle.weave_core.specs.WeavePromise.{AllBlocksOf, OnlyCode}
 use Rattle.weave_core.proofs.Lemmas.{marked, rows_inputs, reads_front, place_low, AreItems, loaded_ranges, Ascend, code_distinct, rows_are, entry_or_stub, length-instructions, mark_behind, rows_behind, down, up, both_all, if_all, AllPieces, IsKnownBlock, InImage, admitted_image, test_writable}
 use Rattle.lockstep.proofs.Lemmas.{only_inside}
-use Rattle.lean.specs.Tests.{LeanTestsPlaces, LeanTestsFaultsClean, LeanTestsNoWrongEnd, IsLeanTest, LeanTestsKept, LeanTestsCaught, LeanTestsFaults, LeanTestsLanded, LeanTestsStrayed, LeanTestsDisplaced, LeanTestsAdrift, LeanTestsUndisturbed, LeanTestsNoSilentSlip, LeanTestsClean, AreLeanBlocks, LeanTestsHaveWords, LeanTestsWritable}
+use Rattle.lean.specs.Tests.{LeanTestsPlaces, LeanTestsFaultsClean, LeanTestsNoWrongEnd, IsLeanTest, LeanTestsKept, LeanTestsCaught, LeanTestsCaughtEarly, LeanTestsFaults, LeanTestsLanded, LeanTestsStrayed, LeanTestsDisplaced, LeanTestsAdrift, LeanTestsUndisturbed, LeanTestsNoSilentSlip, LeanTestsClean, AreLeanBlocks, LeanTestsHaveWords, LeanTestsWritable}
 use Rattle.lean.specs.Woven.{LeanIn, LeanPlan, lean_weave_of}
 use Rattle.lean.proofs.Weave.Costs.{call_fits}
 use Rattle.lean.proofs.Weave.Ways.{reads_behind}
@@ -44,7 +44,7 @@ use Rattle.lean.proofs.Weave.NoWrongEnd.{has_bound, no_wrong_end}
 use Rattle.lean.proofs.Weave.Silent.{silent}
 use Rattle.lean.proofs.Weave.Undisturbed.{lean_undisturbed}
 use Rattle.lean.proofs.Weave.Strays.{lean_strayed}
-use Rattle.lean.proofs.Weave.Promise.{lean_in_step, lean_caught, lean_faults, lean_places, lean_faults_clean, lean_early, lean_clean}
+use Rattle.lean.proofs.Weave.Promise.{lean_in_step, lean_caught, lean_caught_early, lean_faults, lean_places, lean_faults_clean, lean_early, lean_clean}
 use Rattle.lean.proofs.Weave.Unmarked.{unmarked_worded, entry_same, same_code, code_size}
 use Rattle.std.specs.List.{list_all}
 use Rattle.std.proofs.lemmas.List.{append_assoc}
@@ -393,15 +393,19 @@ tests_kept f o every blocks words t reached aims = lean_in_step (input f o every
 
 pub tests_caught : LeanTestsCaught
 tests_caught f o every blocks words t reached aims =
-    lean_caught (input f o every blocks t.cut words t) (output f o every blocks t.cut words t) (w f o every blocks t.cut words t reached aims) (lean_of f o every blocks) blocks (lean_bounds f o every) (plan f o every blocks t.cut words t reached aims) t.cut.sound.visits (record { register = refl; word = refl })
+    lean_caught (input f o every blocks t.cut words t) (output f o every blocks t.cut words t) (w f o every blocks t.cut words t reached aims) (lean_of f o every blocks) blocks (lean_bounds f o every) (plan f o every blocks t.cut words t reached aims) t.cut.sound.visits (record { register = refl; word = refl; early_register = refl; early_word = refl })
+
+pub tests_caught_early : LeanTestsCaughtEarly
+tests_caught_early f o every blocks words t reached aims =
+    lean_caught_early (input f o every blocks t.cut words t) (output f o every blocks t.cut words t) (w f o every blocks t.cut words t reached aims) (lean_of f o every blocks) blocks (lean_bounds f o every) (plan f o every blocks t.cut words t reached aims) t.cut.sound.visits (record { register = refl; word = refl; early_register = refl; early_word = refl })
 
 pub tests_faults : LeanTestsFaults
 tests_faults f o every blocks words t reached aims =
-    lean_faults (input f o every blocks t.cut words t) (output f o every blocks t.cut words t) (w f o every blocks t.cut words t reached aims) (lean_of f o every blocks) blocks (lean_bounds f o every) (plan f o every blocks t.cut words t reached aims) t.cut.sound.visits (record { register = refl; word = refl })
+    lean_faults (input f o every blocks t.cut words t) (output f o every blocks t.cut words t) (w f o every blocks t.cut words t reached aims) (lean_of f o every blocks) blocks (lean_bounds f o every) (plan f o every blocks t.cut words t reached aims) t.cut.sound.visits (record { register = refl; word = refl; early_register = refl; early_word = refl })
 
 pub tests_places : LeanTestsPlaces
 tests_places f o every blocks words t reached aims =
-    lean_places (input f o every blocks t.cut words t) (output f o every blocks t.cut words t) (w f o every blocks t.cut words t reached aims) (lean_of f o every blocks) blocks (lean_bounds f o every) (plan f o every blocks t.cut words t reached aims) t.cut.sound.visits (record { register = refl; word = refl })
+    lean_places (input f o every blocks t.cut words t) (output f o every blocks t.cut words t) (w f o every blocks t.cut words t reached aims) (lean_of f o every blocks) blocks (lean_bounds f o every) (plan f o every blocks t.cut words t reached aims) t.cut.sound.visits (record { register = refl; word = refl; early_register = refl; early_word = refl })
 
 pub tests_landed : LeanTestsLanded
 tests_landed f o every blocks words t land reached aims =

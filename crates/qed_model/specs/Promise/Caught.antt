@@ -13,6 +13,10 @@ use Rattle.qed_model.specs.Promise.Changed.{changed_run, Ordered, last_step, has
 abbrev pub bound_of : Bounds → List Change → Option ℕ
 bound_of bounds cs = cond (has_word cs) bounds.word (Some bounds.register)
 
+-- the bound of a list of early changes, if the form has one
+abbrev pub early_bound_of : Bounds → List Change → Option ℕ
+early_bound_of bounds cs = cond (has_word cs) bounds.early_word bounds.early_register
+
 -- each place is original, and open in the run without changes after its step
 abbrev pub AllOpen : List (ℕ × ℕ) → (ℕ → State) → List Change → Type 0
 AllOpen spans unchanged [] = Unit {0}

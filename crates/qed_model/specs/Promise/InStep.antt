@@ -8,7 +8,7 @@ use Rattle.machine.specs.declared.outcome.Outcome.TheVariants.{Going, Ended, Fir
 use Rattle.machine.specs.Memory.{byte_at}
 use Rattle.machine.specs.Program.{Program, start, AreStartRegs}
 use Rattle.machine.specs.Step.{State, reg}
-use Rattle.qed_model.specs.Promise.Caught.{bound_of, AllOpen, Same, Caught}
+use Rattle.qed_model.specs.Promise.Caught.{bound_of, early_bound_of, AllOpen, Same, Caught}
 use Rattle.qed_model.specs.Promise.Changed.{changed_run, Ordered, last_step}
 use Rattle.qed_model.specs.Promise.Clean.{Clean}
 use Rattle.qed_model.specs.Promise.Kept.{after_output, Steady, Kept}
@@ -43,6 +43,13 @@ pub record CaughtInStep (f g : Program) (reached : ℕ → Bool) (spans : List (
   pub settles : (regs : List ℕ) (cs : List Change) (b : ℕ) →
       AreStartRegs regs → Ordered cs → AllOpen spans (after_output g regs) cs → bound_of bounds cs ≡ Some b →
       Covers f g reached first bound regs (last_step cs + b) → (after_output g regs (last_step cs)).outcome ≡ Going →
+      SettlesWithin spans (last_step cs) b (changed_run (start g regs) cs) (after_output g regs)
+
+-- changes behind the last of which the run without them still goes on for their bound settle within the bound of early ones
+pub record CaughtEarly (f g : Program) (reached : ℕ → Bool) (spans : List (ℕ × ℕ)) (bounds : Bounds) (first bound : ℕ) : Type 0 where
+  pub settles : (regs : List ℕ) (cs : List Change) (b c : ℕ) →
+      AreStartRegs regs → Ordered cs → AllOpen spans (after_output g regs) cs → early_bound_of bounds cs ≡ Some b → bound_of bounds cs ≡ Some c →
+      Covers f g reached first bound regs (last_step cs + b) → (after_output g regs (last_step cs + c)).outcome ≡ Going →
       SettlesWithin spans (last_step cs) b (changed_run (start g regs) cs) (after_output g regs)
 
 -- if the output stands at the entry of an address, its state with the pc at the entry of another fires within `most`

@@ -43,11 +43,13 @@ start_steps s = start_bound s.far s.sweep s.ranges s.words
 abbrev pub longest_piece : Shape → ℕ
 longest_piece s = piece_bound (cost_of s.diverse) s.inst_max s.words s.ranges s.round
 
--- all four bounds
+-- all bounds; this form has none of its own for early changes
 abbrev pub bounds_of : Shape → Bounds
 bounds_of s = record {
   piece = longest_piece s;
   register = register_bound (start_steps s) (longest_piece s);
   word = word_bound s.words s.round (start_steps s) (longest_piece s);
   start = start_steps s;
+  early_register = None;
+  early_word = None;
 }

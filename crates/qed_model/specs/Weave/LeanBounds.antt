@@ -39,6 +39,7 @@ word_bound land zero round ends period = None
 word_bound land (suc n) round ends period = Some (53 + entry_steps land + call_steps land + ends + (piece_count round (suc n) + 1) * period)
 
 -- ---- over a shape, and of a file
+-- changes are early if the output still goes on for the steps of the other bounds behind them: no sweep is in their way
 abbrev pub lean_bounds_of : Shape → ℕ → Bounds
 lean_bounds_of s every =
     let ends = end_bound s.sweep s.ranges s.words in
@@ -48,6 +49,8 @@ lean_bounds_of s every =
       piece = LEAN_LEAVE_STEPS + call_steps s.land + 2 * entry_steps s.land + check + cost_of s.diverse * s.inst_max;
       register = register_bound s.land ends (period s.land check every);
       word = word_bound s.land s.words s.round ends (period s.land check every);
+      early_register = Some (register_bound s.land 0 (period s.land check every));
+      early_word = word_bound s.land s.words s.round 0 (period s.land check every);
     }
 
 abbrev pub lean_bounds : ElfFile → Options → ℕ → Bounds
