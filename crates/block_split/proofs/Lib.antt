@@ -4,4 +4,4 @@ pub mod PieceLengths
 pub mod BuiltLaws
 pub mod BodyLaws
 pub mod BlockLaws
-pub mod ExtentLaws
+pub mod WithinLaws

@@ -9,7 +9,7 @@ use rv_isa::Ins;
 
 /// How many words a body has, and the instruction behind them that ends the block.
 #[derive(Clone, Copy)]
-pub struct Extent {
+pub struct Body {
     pub size: usize,
     pub end: Option<Ins>,
 }
@@ -39,7 +39,7 @@ fn is_behind(previous: u64, word: &CodeWord, next: Option<u64>) -> bool
 }
 
 /// How many of the words that follow the one at `start` belong to its body, and the ending instruction, before `next`.
-fn extent_behind(start: u64, words: &[CodeWord], next: Option<u64>) -> Extent
+fn body_behind(start: u64, words: &[CodeWord], next: Option<u64>) -> Body
     ensures size { result.size ≡ size_behind (is_at next) start words.now }
     ensures within { result.size ≤ length words.now }
     ensures end { result.end ≡ end_behind (is_at next) start words.now }
@@ -48,20 +48,20 @@ fn extent_behind(start: u64, words: &[CodeWord], next: Option<u64>) -> Extent
     let mut size = 0;
     for word in words {
         if !is_behind(previous, word, next) {
-            return Extent { size, end: None };
+            return Body { size, end: None };
         }
         if ends(word) {
             let end = Some(word.ins);
-            return Extent { size, end };
+            return Body { size, end };
         }
         previous = word.at;
         size += 1;
     }
-    Extent { size, end: None }
+    Body { size, end: None }
 }
 
 /// The body of the block that begins with the first of these words; `next` is the first leader behind it.
-pub fn body_extent(words: &[CodeWord], next: Option<u64>) -> Extent
+pub fn first_body(words: &[CodeWord], next: Option<u64>) -> Body
     requires { 1 ≤ length words.now }
     ensures size { result.size ≡ body_size (is_at next) words.now }
     ensures within { result.size ≤ length words.now }
@@ -70,10 +70,10 @@ pub fn body_extent(words: &[CodeWord], next: Option<u64>) -> Extent
     let first = words[0];
     if ends(&first) {
         let end = Some(first.ins);
-        return Extent { size: 0, end };
+        return Body { size: 0, end };
     }
-    let more = extent_behind(first.at, &words[1..], next);
-    Extent {
+    let more = body_behind(first.at, &words[1..], next);
+    Body {
         size: more.size + 1,
         end: more.end,
     }

@@ -13,7 +13,7 @@ ghost use Rattle.block_split.specs.Built.{first, behind, AreAlong, IsLongBlock, 
 ghost use Rattle.block_split.specs.Listed.{block_of, IsWithinTop};
 
 use crate::block::{Blocks, CodeBlock};
-use crate::bodies::{body_extent, ends, is_at};
+use crate::bodies::{ends, first_body, is_at};
 use crate::split;
 use elf_types::{ElfFile, Listed};
 use flow_recovery::{entered, has_indirect, leaders};
@@ -50,7 +50,7 @@ fn long_block(
     requires sound { AreSoundOptions cutting.now.options.now }
     ensures { IfOk result (IsLongBlock (is_at next) (has_address cutting.now.reached.now) cutting.now.options.now.inst_max words.now) }
 {
-    let found = body_extent(words, next);
+    let found = first_body(words, next);
     let body = instructions(alloc, &words[..found.size])?;
     let (least, most) = (cutting.options.inst_min, cutting.options.inst_max);
     let lengths = split(alloc, &body, least, most)?;

@@ -7,7 +7,7 @@ ghost use Rattle.qed_model.specs.Weave.LeanBounds.{lean_bounds_of};
 ghost use Rattle.qed_model.specs.Weave.Pieces.{piece_count};
 ghost use Rattle.bound_calc.specs.Fitting.{fitting, AreSmall};
 
-use crate::steps::{end, fitting, round, told};
+use crate::steps::{bounds_from, end, fitting, round};
 use qed_model::steps::{LEAN_LEAVE_STEPS, call_steps, entry_steps, lean_instruction_steps};
 use qed_model::{Bounds, Shape};
 
@@ -69,7 +69,7 @@ pub fn lean_bounds(shape: &Shape, every: u64) -> Option<Bounds>
     let early = 53 + call(shape);
     let first = early + end(shape);
     let register = fitting(first + u128::from(period))?;
-    let mut bounds = told(piece, register, None, start);
+    let mut bounds = bounds_from(piece, register, None, start);
     bounds.early_register = Some(fitting(early + u128::from(period))?);
     if shape.words > 0 {
         let checks = fitting(checks(shape.words, shape.round))?;

@@ -74,7 +74,7 @@ fn pieces(words: u64, round: u64) -> u128
 }
 
 /// Bounds with these numbers, without any for early changes.
-pub(crate) fn told(most: u64, changed: u64, visited: Option<u64>, first: u64) -> Bounds
+pub(crate) fn bounds_from(most: u64, changed: u64, visited: Option<u64>, first: u64) -> Bounds
     ensures { result ≡ record { piece = most; register = changed; word = visited; start = first; early_register = None; early_word = None } }
 {
     Bounds {
@@ -96,9 +96,9 @@ pub fn bounds(shape: &Shape) -> Option<Bounds>
     let start = start(shape)?;
     let register = fitting(u128::from(start) + 2 * u128::from(piece))?;
     if shape.words == 0 {
-        return Some(told(piece, register, None, start));
+        return Some(bounds_from(piece, register, None, start));
     }
     let pieces = fitting(pieces(shape.words, shape.round))?;
     let word = fitting(u128::from(start) + u128::from(pieces) * u128::from(piece))?;
-    Some(told(piece, register, Some(word), start))
+    Some(bounds_from(piece, register, Some(word), start))
 }

@@ -26,6 +26,10 @@ on_none s = record { there = sym (run-none s); before = λ k l. absurd (omega (a
 pub on_later : (s t : State) (n k : ℕ) → IsOn s n t → run s (n + k) ≡ run t k
 on_later s t n k on = run-more s n k ∙ ap (λ u. run u k) (sym on.there)
 
+-- one more step
+pub one_on : (s t : State) (n : ℕ) → t ≡ run s n → run t 1 ≡ run s (n + 1)
+one_on s t n there = ap (λ u. run u 1) there ∙ sym (run-more s n 1)
+
 pub on_before : (s t : State) (n steps k : ℕ) → IsOn s n t → ((i : ℕ) → i < steps → (run t i).outcome ≡ Going) → k < n + steps → (run s k).outcome ≡ Going
 on_before s t n steps k on going l =
     ⊎_elim (on.before k)

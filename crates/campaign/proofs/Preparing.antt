@@ -5,7 +5,7 @@ use Rattle.tests.specs.declared.options.Options.{Options}
 use Rattle.qed_model.specs.Weave.Bounds.{word_bound, start_steps, longest_piece}
 use Rattle.tests.specs.Admission.Places.{image_of}
 use Rattle.qed_model.specs.Weave.Sequences.{Block}
-use Rattle.qed_model.specs.Weave.Woven.{is_far_code, code_as, new_code, IsToldOf}
+use Rattle.qed_model.specs.Weave.Woven.{is_far_code, code_as, new_code, IsPlanOf}
 use Rattle.qed_model.specs.Weave.LeanBounds as lean
 use Rattle.qed_model.specs.Weave.Forms.{shape_of}
 use Rattle.transform.specs.declared.error.TransformError.{TransformError}
@@ -25,7 +25,7 @@ some_word : (l : Option ℕ) (f : ElfFile) (o : Options) (blocks : List Block) �
 some_word None f o blocks h = let shape = shape_of f o (is_far_code f o blocks) in some_bound (word_count (data_ranges (image_of f))) shape.round (start_steps shape) (longest_piece shape) h
 some_word (Some every) f o blocks h = some_lean_bound o.land (word_count (data_ranges (image_of f))) _ _ _ h
 
-pub has_words : (f : ElfFile) (o : Options) (blocks : List Block) (plan : Plan) → IsToldOf (new_code f o blocks) f o blocks plan → HasWords plan
+pub has_words : (f : ElfFile) (o : Options) (blocks : List Block) (plan : Plan) → IsPlanOf (new_code f o blocks) f o blocks plan → HasWords plan
 has_words f o blocks plan told = record {
   count = told.words ∙ ap word_count (sym told.span);
   bound = λ h. subst (λ b. IsSome b.word) (sym told.bounds) (some_word o.lean f o blocks (subst (λ n. 1 ≤ n) told.words h));

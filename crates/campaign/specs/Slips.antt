@@ -1,5 +1,6 @@
 -- Slips that are drawn at random, each by three random words, and what each shows.
-use Rattle.std.specs.Prelude.{◌≡◌, ◌≢◌, ℕ, ◌+◌, ◌*◌, ◌%◌, ◌^◌, ◌≤◌, ◌==◌, ◌&&◌, nat_lt, max, Bool, true, false, if◌then◌else◌, List, map, length, slice_get, Option, Some, None, IfSome, unwrap_or}
+use Rattle.std.specs.Prelude.{◌≡◌, ◌≢◌, ℕ, ◌+◌, ◌*◌, ◌%◌, ◌^◌, ◌≤◌, ◌==◌, ◌&&◌, nat_lt, max, Bool, true, false, if◌then◌else◌}
+use Rattle.std.specs.Prelude.{List, map, length, slice_get, Option, Some, None, IfSome, unwrap_or}
 use Rattle.rand_pcg.specs.Lcg.{Lcg}
 use Rattle.rv_isa.specs.declared.class.Class.{Class}
 use Rattle.rv_isa.specs.declared.class.Class.TheVariants as class
@@ -119,7 +120,8 @@ ended_right input spans step states _ = false
 pub record IsSlip (plan : Plan) (input s : State) (results : Bool) (d : DrawnSlip) (found : SlipFound) : Type 0 where
   pub at : found.at ≡ slip_of plan s d
   pub shows : ShowsSlip s found.at.slip (bound_of_slip plan.bounds (known_at s s.pc)) found.verdict
-  pub right : found.right ≡ (if results then Some (ended_right input (map range_of plan.span) d.step (run (slipped_step found.at.slip s)) found.verdict) else None)
+  pub right : found.right ≡ (if results
+      then Some (ended_right input (map range_of plan.span) d.step (run (slipped_step found.at.slip s)) found.verdict) else None)
 
 -- as many as are drawn, each found of that number
 pub record AreDrawnSlips (plan : Plan) (input output : State) (reach : ℕ) (d : Draws) (results : Bool) (found : List SlipFound) : Type 0 where

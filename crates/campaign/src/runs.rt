@@ -163,7 +163,7 @@ impl Runs {
         self.output.at(number)
     }
 
-    /// What the output's run touches, for the changes of so many words.
+    /// What the output's run touches, if this pays off for `words` changes of words.
     pub(crate) fn traced(&self, alloc: Global, words: u64) -> Result<Trace, AllocError>
         ensures { IfOk result (IsTrace self.now.output) }
     {

@@ -11,8 +11,10 @@ ghost use Rattle.campaign.specs.Draw.{each};
 ghost use Rattle.campaign.specs.Found.{TellsStop};
 ghost use Rattle.campaign.specs.Later.{IsChangedAt};
 ghost use Rattle.campaign.specs.Slips.{AreDrawnSlips, IsSlip, ShowsSlip, StandsEnded, AreKnownSlips, bound_of_slip, ended_right, numbered_slip};
-ghost use Rattle.campaign.specs.Slips.{drawn_slip as drawn_slip_of, drawn_way as drawn_way_of, ends_as as ends_as_of, gives_result as gives_result_of, other_place as other_place_of};
-ghost use Rattle.campaign.specs.Slips.{branch_way as branch_way_of, result_way as result_way_of, stop_verdict as stop_verdict_of, store_way as store_way_of, way_of as way_of_class};
+ghost use Rattle.campaign.specs.Slips.{drawn_slip as drawn_slip_of, drawn_way as drawn_way_of, ends_as as ends_as_of, gives_result as gives_result_of};
+ghost use Rattle.campaign.specs.Slips.{other_place as other_place_of};
+ghost use Rattle.campaign.specs.Slips.{branch_way as branch_way_of, result_way as result_way_of, stop_verdict as stop_verdict_of, store_way as store_way_of};
+ghost use Rattle.campaign.specs.Slips.{way_of as way_of_class};
 
 use crate::draw::{drawn_step, word_address};
 use crate::right::{byte, same_values};
@@ -327,7 +329,8 @@ impl<'a> Slipping<'a> {
         step: u64,
         verdict: SlipVerdict,
     ) -> Result<Option<bool>, AllocError>
-        ensures { IfOk result (λ right. right ≡ (if self.now.results then Some (ended_right self.now.input.now (map range_of self.now.plan.now.span) step (λ _. output.now.state) verdict) else None)) }
+        ensures { IfOk result (λ right. right ≡ (if self.now.results
+            then Some (ended_right self.now.input.now (map range_of self.now.plan.now.span) step (λ _. output.now.state) verdict) else None)) }
     {
         if !self.results {
             return Ok(None);
@@ -365,7 +368,8 @@ impl<'a> Slipping<'a> {
         progress: &mut dyn Progress,
     ) -> Result<Vec<Option<SlipFound>>, AllocError>
         requires { IsTrace self.now.output.now.start self.now.trace.now }
-        ensures known { IfOk result (λ known. AreKnownSlips self.now.plan.now self.now.input.now self.now.output.now.start self.now.results slips.now known.items) }
+        ensures known { IfOk result (λ known.
+            AreKnownSlips self.now.plan.now self.now.input.now self.now.output.now.start self.now.results slips.now known.items) }
         ensures count { IfOk result (λ known. length known.items ≡ length slips.now) }
         ensures told { IfOk result (λ _. told progress.new ≡ length slips.now) }
         ensures all { IfOk result (λ _. all progress.new ≡ length slips.now) }
@@ -415,7 +419,8 @@ impl<'a> Slipping<'a> {
         progress: &mut dyn Progress,
     ) -> Result<Vec<SlipFound>, AllocError>
         requires { IsTrace self.now.output.now.start self.now.trace.now }
-        ensures slips { IfOk result (λ found. AreDrawnSlips self.now.plan.now self.now.input.now self.now.output.now.start self.now.output.now.reach draws.now self.now.results found.items) }
+        ensures slips { IfOk result (λ found.
+            AreDrawnSlips self.now.plan.now self.now.input.now self.now.output.now.start self.now.output.now.reach draws.now self.now.results found.items) }
         ensures told { IfOk result (λ _. told progress.new ≡ draws.now.count) }
         ensures all { IfOk result (λ _. all progress.new ≡ draws.now.count) }
     {

@@ -210,7 +210,7 @@ fn unread<S: Shelf>(
 }
 
 /// That an output replaced its input, or else, on a terminal, how much longer the output is.
-fn made<S: Shelf>(
+fn output_note<S: Shelf>(
     alloc: Global,
     asked: &Order,
     line: &str,
@@ -255,7 +255,7 @@ pub fn advice<S: Shelf>(
     match kind {
         "refused" | "limit" => refused(alloc, &asked, rest, shelf),
         "read" => unread(alloc, &asked, call.reason, shelf),
-        "code" => made(alloc, &asked, rest, on_terminal, shelf),
+        "code" => output_note(alloc, &asked, rest, on_terminal, shelf),
         _ => of_run(alloc, &asked, call.printed, shelf),
     }
 }

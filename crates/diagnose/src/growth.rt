@@ -54,7 +54,12 @@ fn lengths(blocks: &[CodeBlock]) -> Option<(u64, u64)> {
 }
 
 /// The text about the output of a test with these bytes; the output has `words` words of code.
-fn told(alloc: Global, bytes: &[u8], options: &Options, words: u64) -> Result<String, AllocError>
+fn growth_of(
+    alloc: Global,
+    bytes: &[u8],
+    options: &Options,
+    words: u64,
+) -> Result<String, AllocError>
     requires { AreSoundOptions options.now }
 {
     let Ok(file) = read_elf(alloc, bytes) else {
@@ -92,7 +97,7 @@ pub(crate) fn growth<S: Shelf>(
     ensures { S.files shelf.new ≡ S.files shelf.old }
 {
     match shelf.load(alloc, name, MAX_FILE_BYTES) {
-        Ok(bytes) => told(alloc, bytes.as_slice(), options, words),
+        Ok(bytes) => growth_of(alloc, bytes.as_slice(), options, words),
         Err(_) => Ok(String::new(alloc)),
     }
 }

@@ -1,7 +1,7 @@
 //! Names of commands and options that are near to a word, and what `help` says about an option.
 
 use qed_words::{COMMANDS, Command, Topic};
-use report::told;
+use report::topic_text;
 use std::alloc::{AllocError, Global};
 use strsim::levenshtein;
 
@@ -17,7 +17,7 @@ pub(crate) fn push_lines(
         Some(_) => Command::Transform,
         None => command,
     };
-    for line in told(Topic::One(home)).lines() {
+    for line in topic_text(Topic::One(home)).lines() {
         if line.starts_with(front.as_str()) {
             text.push_str(line)?;
             text.push_str("\n")?;

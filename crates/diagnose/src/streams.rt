@@ -48,7 +48,7 @@ fn has_pipe<R: Files>(rt: &R, words: &[String]) -> bool {
 }
 
 /// The text about a call.
-fn told<R: Files + Alloc<A = Global>>(
+fn text_of_call<R: Files + Alloc<A = Global>>(
     rt: &R,
     call: &EndedCall<'_>,
     on_terminal: bool,
@@ -77,7 +77,7 @@ pub fn complain<R: Files + Alloc<A = Global>, E: Eprint + IsTerminal>(
     } else if *code == ExitCode::from(7) {
         String::from_str(alloc, "qed: there was no memory\n")
     } else {
-        told(rt, call, err.is_terminal())
+        text_of_call(rt, call, err.is_terminal())
     };
     if let Ok(text) = text {
         let _ = err.eprint(text);

@@ -3,7 +3,7 @@
 use crate::names::{near_command, near_option, push_lines};
 use crate::sentences::sentence_of;
 use qed_words::{Command, Topic, fault};
-use report::told;
+use report::topic_text;
 use std::alloc::{AllocError, Global};
 use texts::{MOST_OF_NAME, number, printable};
 
@@ -96,7 +96,7 @@ fn first_line(
 fn synopsis(command: Option<Command>, word: Option<Word<'_>>) -> &'static str {
     let page = match command {
         None | Some(Command::Help | Command::Version) => return "qed help tells all commands",
-        Some(command) => told(Topic::One(command)),
+        Some(command) => topic_text(Topic::One(command)),
     };
     match word {
         Some(word) if word.text == "--help" || word.text == "-h" => page,

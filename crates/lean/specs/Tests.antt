@@ -129,7 +129,8 @@ abbrev pub LeanTestsUndisturbed : Type 0
 LeanTestsUndisturbed =
     (f : ElfFile) (o : Options) (every : ℕ) (blocks : List Block) (words : List ℕ)
     → IsLeanTest f o every blocks words → (reached : ℕ → Bool) → AreReached f o reached
-    → Undisturbed (loaded_file f) (loaded_file (file_read (lean_file f o every blocks words))) reached (base_of (image_of f)) (half_of o.half (image_of f)) (entry_in f o every blocks) blocks
+    → Undisturbed (loaded_file f) (loaded_file (file_read (lean_file f o every blocks words))) reached (base_of (image_of f)) (half_of o.half (image_of f))
+    (entry_in f o every blocks) blocks
     (undisturbed_piece o.land (length (data_ranges (image_of f))) o.round) (undisturbed_ends (data_ranges (image_of f)))
 
 -- no single wrong instruction ends silently wrong
@@ -137,7 +138,8 @@ abbrev pub LeanTestsNoSilentSlip : Type 0
 LeanTestsNoSilentSlip =
     (f : ElfFile) (o : Options) (every : ℕ) (blocks : List Block) (words : List ℕ)
     → IsLeanTest f o every blocks words → (reached : ℕ → Bool) → AreReached f o reached
-    → NoSilentSlip (loaded_file f) (loaded_file (file_read (lean_file f o every blocks words))) reached (data_ranges (image_of f)) (base_of (image_of f)) (half_of o.half (image_of f))
+    → NoSilentSlip (loaded_file f) (loaded_file (file_read (lean_file f o every blocks words))) reached (data_ranges (image_of f)) (base_of (image_of f))
+    (half_of o.half (image_of f))
     (lean_bounds f o every) (undisturbed_piece o.land (length (data_ranges (image_of f))) o.round) (undisturbed_ends (data_ranges (image_of f)))
 
 -- a store to other data words is caught
@@ -161,7 +163,8 @@ abbrev pub LeanTestsNoWrongEnd : Type 0
 LeanTestsNoWrongEnd =
     (f : ElfFile) (o : Options) (every : ℕ) (blocks : List Block) (words : List ℕ)
     → IsLeanTest f o every blocks words → o.sweep ≡ true → (reached : ℕ → Bool) → AreReached f o reached
-    → NoWrongEnd (loaded_file f) (loaded_file (file_read (lean_file f o every blocks words))) reached (data_ranges (image_of f)) (base_of (image_of f)) (half_of o.half (image_of f))
+    → NoWrongEnd (loaded_file f) (loaded_file (file_read (lean_file f o every blocks words))) reached (data_ranges (image_of f)) (base_of (image_of f))
+    (half_of o.half (image_of f))
 
 -- with the sweep no change before it is silent at the end
 abbrev pub LeanTestsClean : Type 0

@@ -1,4 +1,4 @@
--- The duplicate half does not reach the original half: from the entry of a block the original half alone has to be right.
+-- The duplicate half does not reach the original half: at the entry of a block only the latter has to be right.
 use Rattle.std.specs.Prelude.{◌≡◌, ◌↔◌, ℕ, suc, cond, nat_le, ◌-◌, ◌+◌, ◌*◌, ◌^◌, ◌<◌, ◌≤◌, ◌⊎◌, Bool, true, false, List, [], ◌∷◌, length}
 use Rattle.rv_isa.specs.declared.profile.TheConstants.{LAST_ORIGINAL, PAIR_DISTANCE, DISTANCE, CURSOR, SIGNATURE, TEMPORARY, SPARE}
 use Rattle.machine.specs.declared.outcome.Outcome.TheVariants.{Going, Ended}
@@ -45,8 +45,8 @@ pub record ComesTo (f : Program) (t u : State) (most : ℕ) : Type 0 where
   pub within : steps ≤ most
   pub is : IsOver (run u steps).outcome ⊎ (Halves f t (run u steps) × (((run u steps).outcome ≡ Ended) ↔ (t.outcome ≡ Ended)))
 
--- the most steps for a step of the input and once more, by the option `land`, the data ranges and the words of a round: those
--- of an entry, the check, the entry again, a period, and a leave
+-- the most steps for a step of the input and once more, by the option `land`, the data ranges and the words of a round:
+-- those of an entry, the check, the entry again, a period, and a leave
 abbrev pub undisturbed_piece : Bool → ℕ → ℕ → ℕ
 undisturbed_piece land ranges round = 2 * (entry_steps land + call_steps land) + (5 + 5 * ranges) * round + 2114
 
@@ -83,9 +83,10 @@ pub record Sets (r : ℕ) (u : State) : Type 0 where
   pub sets : writes_rd (class_of ins.kind) ≡ true
   pub rd : ins.rd ≡ r
 
--- before each instruction of the run that reads r, from step n on, another one sets it: its value at step n waits for no use
+-- from step n on each instruction that reads r comes behind one that sets it: its value at step n waits for no use
 abbrev pub IsIdle : (ℕ → State) → ℕ → ℕ → Type 0
-IsIdle states r n = (k : ℕ) (i : Ins) → (states (n + k)).outcome ≡ Going → next (states (n + k)) ≡ Known i → ReadsRegister i r → (j : ℕ) × (j < k) × Sets r (states (n + j))
+IsIdle states r n = (k : ℕ) (i : Ins) → (states (n + k)).outcome ≡ Going → next (states (n + k)) ≡ Known i
+    → ReadsRegister i r → (j : ℕ) × (j < k) × Sets r (states (n + j))
 
 -- x30 and x31
 abbrev pub IsTemporary : ℕ → Type 0
@@ -102,13 +103,15 @@ AllMay g base distance states [] = Unit {0}
 AllMay g base distance states (c ∷ cs) = (IsDuplicate g base distance c.place ⊎ IsIdlePlace states c.step c.place) × AllMay g base distance states cs
 
 -- ---- slips of its instructions
--- v is the state behind the instruction i of u if it goes wrong once: it gives such a register any number, or stores any number
--- anywhere in the duplicate half, or is skipped
+-- v is the state behind the instruction i of u if it goes wrong once: it gives such a register any number, or stores
+-- any number anywhere in the duplicate half, or is skipped
 pub data SlipsDuplicate (g : Program) (base distance : ℕ) (i : Ins) (u v : State) : Type 0 where
   writes : (class_of i.kind ≡ class.Compute) ⊎ (class_of i.kind ≡ class.Load) → IsDuplicateReg i.rd → GivesAny i u v → SlipsDuplicate g base distance i u v
-  stores : (x a : ℕ) → class_of i.kind ≡ class.Store → InDuplicate g base distance (place i u) (width_of i.kind) → InDuplicate g base distance a (width_of i.kind)
+  stores : (x a : ℕ) → class_of i.kind ≡ class.Store → InDuplicate g base distance (place i u) (width_of i.kind)
+      → InDuplicate g base distance a (width_of i.kind)
       → v ≡ stored (put u.memory a (width_of i.kind) x) (next_pc u) u → SlipsDuplicate g base distance i u v
-  leaves : class_of i.kind ≡ class.Store → InDuplicate g base distance (place i u) (width_of i.kind) → v ≡ moved u.regs (next_pc u) u → SlipsDuplicate g base distance i u v
+  leaves : class_of i.kind ≡ class.Store → InDuplicate g base distance (place i u) (width_of i.kind)
+      → v ≡ moved u.regs (next_pc u) u → SlipsDuplicate g base distance i u v
 
 -- ---- slips of other instructions that are none of the test's own
 -- x14, x16, x30 and x31
@@ -123,8 +126,8 @@ WritesOutput i = ((class_of i.kind ≡ class.Compute) ⊎ (class_of i.kind ≡ c
 abbrev pub Steers : Ins → Type 0
 Steers i = (class_of i.kind ≡ class.Branch) ⊎ ((class_of i.kind ≡ class.Jump) ⊎ ((class_of i.kind ≡ class.JumpReg) ⊎ (class_of i.kind ≡ class.End)))
 
--- v is the state behind the instruction i of u if it goes wrong once: it gives such a register any number, is a branch that goes
--- the other way, or is skipped
+-- v is the state behind the instruction i of u if it goes wrong once: it gives such a register any number, is a branch
+-- that goes the other way, or is skipped
 pub data SlipsOther (i : Ins) (u v : State) : Type 0 where
   gives : (x : ℕ) → WritesOutput i → x < 2 ^ 64 → v ≡ moved (set_reg i.rd x u.regs) (next_pc u) u → SlipsOther i u v
   turns : class_of i.kind ≡ class.Branch → v ≡ misled i u → SlipsOther i u v
@@ -143,14 +146,15 @@ abbrev pub slipped_run : Program → List ℕ → ℕ → State → ℕ → Stat
 slipped_run g regs n v j = cond (nat_le j n) (after_output g regs j) (run v (j - (n + 1)))
 
 -- ---- what follows
--- A run, given by its states, comes to the input's states after 0, 1, up to n steps, one after the other. It comes to the first
--- within `first` steps, and to each later one within `bound` more. There the original half has the input's values, and the
--- run has ended exactly if the input has; or before it a check has fired, or a step has trapped
+-- A run, given by its states, comes to the input's states after 0, 1, up to n steps, one after the other. It comes to
+-- the first within `first` steps, and to each later one within `bound` more. There the original half has the input's
+-- values, and the run has ended exactly if the input has; or before it a check has fired, or a step has trapped
 pub record FollowsTo (f : Program) (n first bound : ℕ) (states : ℕ → State) : Type 0 where
   pub at : ℕ → ℕ
   pub grows : (k : ℕ) → k < n → at k < at (suc k)
   pub within : (k : ℕ) → k ≤ n → at k ≤ first + k * bound
-  pub values : (k : ℕ) → k ≤ n → IsOver (states (at k)).outcome ⊎ (Halves f (after_input f k) (states (at k)) × (((states (at k)).outcome ≡ Ended) ↔ ((after_input f k).outcome ≡ Ended)))
+  pub values : (k : ℕ) → k ≤ n → IsOver (states (at k)).outcome
+      ⊎ (Halves f (after_input f k) (states (at k)) × (((states (at k)).outcome ≡ Ended) ↔ ((after_input f k).outcome ≡ Ended)))
 
 -- the input has ended, and the original half of a state has its values
 pub record EndsRight (f : Program) (u : State) : Type 0 where
@@ -158,29 +162,33 @@ pub record EndsRight (f : Program) (u : State) : Type 0 where
   pub ended : (after_input f steps).outcome ≡ Ended
   pub halves : Halves f (after_input f steps) u
 
--- the most steps that a change costs, where the output maps no byte from `top` on: those of a step of the input and of the end,
--- and those of a sweep that goes on until it traps
+-- the most steps that a change costs, where the output maps no byte from `top` on: those of a step of the input and of
+-- the end, and those of a sweep that goes on until it traps
 abbrev pub change_price : ℕ → ℕ → ℕ → ℕ
 change_price bound ends top = bound + ends + top
 
--- from such a state the run comes to each later state of the input, as long as the input is steady, or is over. In steps,
--- `bound` is for each step of the input and once more, and `ends` for the end of the test.
--- From its start it comes to the input's states in their order, with any changes of the duplicate half at any steps, and of x30 and
--- x31 while their values wait for no use. So it does if one instruction that writes into the duplicate half goes wrong
+-- from such a state the run comes to each later state of the input, as long as the input is steady, or is over. In
+-- steps, `bound` is for each step of the input and once more, and `ends` for the end of the test. From its start it
+-- comes to the input's states in their order, with any changes of the duplicate half at any steps, and of x30 and x31
+-- while their values wait for no use. So it does if one instruction that writes into the duplicate half goes wrong
 pub record Undisturbed (f g : Program) (reached : ℕ → Bool) (base distance : ℕ) (entry : ℕ → ℕ) (blocks : List Block) (bound ends : ℕ) : Type 0 where
   pub follows :
-      (k n : ℕ) (u : State) → (after_input f k).outcome ≡ Going → begins_at blocks (after_input f k).pc ≡ true → HasOriginals f g base distance entry (after_input f k) u
+      (k n : ℕ) (u : State) → (after_input f k).outcome ≡ Going → begins_at blocks (after_input f k).pc ≡ true
+      → HasOriginals f g base distance entry (after_input f k) u
       → Steady f reached (k + n) → ComesTo f (after_input f (k + n)) u ((n + 1) * bound + ends)
   pub keeps :
-      (regs : List ℕ) (cs : List Change) (n top : ℕ) → AreStartRegs regs → AllMay g base distance (changed_run (start g regs) cs) cs → ((q : ℕ) → top ≤ q → is_mapped g q ≡ false) → top + 8 ≤ 2 ^ 64
+      (regs : List ℕ) (cs : List Change) (n top : ℕ) → AreStartRegs regs → AllMay g base distance (changed_run (start g regs) cs) cs
+      → ((q : ℕ) → top ≤ q → is_mapped g q ≡ false) → top + 8 ≤ 2 ^ 64
       → Steady f reached n → FollowsTo f n (31 + bound + ends + length cs * change_price bound ends top) bound (changed_run (start g regs) cs)
   pub slips :
-      (regs : List ℕ) (m n top : ℕ) (i : Ins) (v : State) → AreStartRegs regs → (after_output g regs m).outcome ≡ Going → next (after_output g regs m) ≡ Known i → (after_output g regs (m + 1)).outcome ≡ Going
+      (regs : List ℕ) (m n top : ℕ) (i : Ins) (v : State) → AreStartRegs regs → (after_output g regs m).outcome ≡ Going → next (after_output g regs m) ≡ Known i
+      → (after_output g regs (m + 1)).outcome ≡ Going
       → SlipsDuplicate g base distance i (after_output g regs m) v → ((q : ℕ) → top ≤ q → is_mapped g q ≡ false) → top + 8 ≤ 2 ^ 64
       → Steady f reached n → FollowsTo f n (31 + bound + ends + change_price bound ends top) bound (slipped_run g regs m v)
   -- so it does, or is over within `slip_steps`, if another one goes wrong and the run without the slip goes on
   pub others :
-      (regs : List ℕ) (m n top : ℕ) (i : Ins) (v : State) → AreStartRegs regs → (after_output g regs m).outcome ≡ Going → next (after_output g regs m) ≡ Known i → SlipsOther i (after_output g regs m) v
+      (regs : List ℕ) (m n top : ℕ) (i : Ins) (v : State) → AreStartRegs regs → (after_output g regs m).outcome ≡ Going → next (after_output g regs m) ≡ Known i
+      → SlipsOther i (after_output g regs m) v
       → GoesOn g regs m → ((q : ℕ) → top ≤ q → is_mapped g q ≡ false) → top + 8 ≤ 2 ^ 64
       → Steady f reached n → Stopped slip_steps v ⊎ FollowsTo f n (31 + bound + ends + change_price bound ends top) bound (slipped_run g regs m v)
   -- so if the input is steady for ever, a run with either slip that ends has its values

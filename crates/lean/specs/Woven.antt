@@ -159,7 +159,8 @@ LeanCaughtEarly =
 abbrev pub LeanLanded : Type 0
 LeanLanded =
     (f g : Program) (w : World) (l : Lean) (blocks : List Block) (entries : List EntryRow) → LeanPlan f g w l blocks → l.land ≡ true
-    → ((a e : ℕ) → IsEntry entries a e → (begins_at blocks a ≡ true) × (e ≡ w.entry a)) → LandedInStep 4 f g w.reached entries (lean_start_of w) (lean_piece_of w l)
+    → ((a e : ℕ) → IsEntry entries a e → (begins_at blocks a ≡ true) × (e ≡ w.entry a))
+    → LandedInStep 4 f g w.reached entries (lean_start_of w) (lean_piece_of w l)
 
 -- with `land`, if the code of a block runs under the signature of another one, the run is over soon
 abbrev pub LeanStrayed : Type 0
@@ -169,11 +170,13 @@ LeanStrayed =
 
 -- a run at the entry of a block under another signature is over, also without `land`
 abbrev pub LeanDisplaced : Type 0
-LeanDisplaced = (f g : Program) (w : World) (l : Lean) (blocks : List Block) → LeanPlan f g w l blocks → Displaced g (worded w.form w.base w.entry l (begins_at blocks)) w.entry blocks
+LeanDisplaced = (f g : Program) (w : World) (l : Lean) (blocks : List Block) → LeanPlan f g w l blocks
+    → Displaced g (worded w.form w.base w.entry l (begins_at blocks)) w.entry blocks
 
 -- and so is one with another number in x14
 abbrev pub LeanAdrift : Type 0
-LeanAdrift = (f g : Program) (w : World) (l : Lean) (blocks : List Block) → LeanPlan f g w l blocks → Adrift g (worded w.form w.base w.entry l (begins_at blocks)) w.distance w.entry blocks
+LeanAdrift = (f g : Program) (w : World) (l : Lean) (blocks : List Block) → LeanPlan f g w l blocks
+    → Adrift g (worded w.form w.base w.entry l (begins_at blocks)) w.distance w.entry blocks
 
 -- the duplicate half does not reach the original half
 abbrev pub LeanUndisturbed : Type 0

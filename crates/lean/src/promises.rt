@@ -1,6 +1,7 @@
 //! What is promised of the lean form.
 ghost use Rattle.lean.specs.Tests.{LeanTestsHaveWords, LeanTestsWritable, LeanTestsKept, LeanTestsCaught, LeanTestsCaughtEarly, LeanTestsFaults};
-ghost use Rattle.lean.specs.Tests.{LeanTestsLanded, LeanTestsStrayed, LeanTestsDisplaced, LeanTestsAdrift, LeanTestsUndisturbed, LeanTestsNoSilentSlip, LeanTestsClean};
+ghost use Rattle.lean.specs.Tests.{LeanTestsLanded, LeanTestsStrayed, LeanTestsDisplaced, LeanTestsAdrift, LeanTestsUndisturbed};
+ghost use Rattle.lean.specs.Tests.{LeanTestsNoSilentSlip, LeanTestsClean};
 ghost use Rattle.lean.specs.Tests.{LeanTestsPlaces, LeanTestsFaultsClean, LeanTestsNoWrongEnd};
 ghost use Rattle.lean.specs.Woven.{LeanKept, LeanKeptInStep, LeanCaught, LeanCaughtEarly, LeanLanded, LeanStrayed, LeanDisplaced, LeanAdrift, LeanUndisturbed, LeanClean};
 

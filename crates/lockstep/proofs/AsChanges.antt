@@ -12,7 +12,7 @@ use Rattle.weave_core.proofs.Lemmas.{width_le, known_same}
 use Rattle.lockstep.specs.Laws.{OpenAt}
 use Rattle.lockstep.specs.WrongOnce.{StoresElsewhere, WrongOnce, results, stores, elsewhere}
 use Rattle.lockstep.proofs.Calm.{CalmCode, loaded_at}
-use Rattle.lockstep.proofs.Made.{changed_later}
+use Rattle.lockstep.proofs.ManyChanges.{changed_later}
 use Rattle.lockstep.proofs.Promise.{AllUnneeded}
 use Rattle.lockstep.proofs.Sets.{word_below}
 use Rattle.lockstep.proofs.WrongSteps.{opens_behind, writes_straight, wrote, stored_step, any_struck, AllAt, behind_at, by_at, ordered_at, last_at, struck_all, changed_all, unchanged_before}

@@ -1,4 +1,4 @@
--- In the new code a branch on x0 to x13 stands before the two jumps of its ways: of the items of a form, and of its words.
+-- In the new code a branch on x0 to x13 stands before the jumps of its two ways, among items and among words.
 use Rattle.std.proofs.Common.{◌≡◌, ℕ, zero, suc, ◌+◌, ◌*◌, ◌%◌, ◌^◌, ◌<◌, ◌≤◌, ⊎_elim, Bool, true, false, cond, List, [], ◌∷◌, ◌++◌, length, refl, sym, ap, ◌∙◌, subst, arith}
 use Rattle.std.specs.Prelude.{◌==◌, pos, neg_ℤ}
 use Rattle.std.proofs.lemmas.Bool.{false≢true, cases_Bool}

@@ -14,7 +14,7 @@ use Rattle.qed_model.specs.Promise.InStep.{SettlesWithin}
 use Rattle.qed_model.specs.Weave.Blocks.{begins_at, Options}
 use Rattle.qed_model.specs.Weave.Bounds.{end_bound, word_bound}
 use Rattle.qed_model.specs.Weave.Sequences.{Block, Ins}
-use Rattle.qed_model.specs.Weave.Woven.{compared, IsToldOf}
+use Rattle.qed_model.specs.Weave.Woven.{compared, IsPlanOf}
 use Rattle.weave_core.specs.Leaving.{sweep_cost}
 use Rattle.weave_core.specs.Lock.{span_bytes, Undisturbed}
 use Rattle.weave_core.specs.Tests.{IsWovenTest}
@@ -162,7 +162,7 @@ module _ (f : ElfFile) (o : Options) (blocks : List Block) (words : List ℕ) (t
   closed : Closes input output w blocks
   closed = tests.closes f o t.sound t.file.loads t.admitted blocks t.are words t.code t.few reached aims
 
-  module _ (plan : Plan) (told : IsToldOf (compared f o blocks) f o blocks plan) where
+  module _ (plan : Plan) (told : IsPlanOf (compared f o blocks) f o blocks plan) where
     test_faults : FaultsFound input output reached (data_ranges (image_of f)) plan.bounds plan.bounds.start plan.bounds.piece
     test_faults = subst (λ b. FaultsFound input output reached (data_ranges (image_of f)) plan.bounds b.start b.piece) (sym told.bounds) (plan_faults input output w o.inst_max blocks plan_is mirrors closed t.sound.visits plan.bounds (tests.told_bounds f o blocks plan told))
 

@@ -1,6 +1,6 @@
 -- The laws that proofs of other crates cite.
 pub use Rattle.lockstep.proofs.Sets.{word_below}
-pub use Rattle.lockstep.proofs.Made.{changed_later}
+pub use Rattle.lockstep.proofs.ManyChanges.{changed_later}
 pub use Rattle.lockstep.proofs.Trace.{EndsSoon, NextSteps, PieceSteps, Sizes, SweptEnd, Trace}
 pub use Rattle.lockstep.proofs.Numbered.{AtNumber, placed, round_of, round_on, round_some}
 pub use Rattle.lockstep.proofs.Ending.{LastBoundary, Numbered, ToEnd, next_numbered, swept_is, to_end, visits_in}

@@ -1,4 +1,4 @@
--- In the default form a branch on x0 to x13 that goes the wrong way leads to an entry whose signature is that of the other way.
+-- In the default form a branch on x0 to x13 that goes wrong leads to an entry, but x16 has the other way's signature.
 use Rattle.std.proofs.Common.{◌≡◌, ℕ, ◌+◌, ◌-◌, ◌*◌, ◌%◌, ◌^◌, ◌<◌, ◌≤◌, ⊎_elim, Bool, true, false, not, List, ◌∷◌, ◌++◌, length, refl, sym, ap, ◌∙◌, subst, arith, append_assoc, length-append}
 use Rattle.std.specs.Prelude.{pos, slice_index}
 use Rattle.std.proofs.lemmas.Bool.{cases_Bool, cases_eq}

@@ -13,7 +13,7 @@ use Rattle.weave_core.specs.World.{World, Going, Program, start, AreStartRegs, S
 use Rattle.lockstep.proofs.Agreeing.{agree_moved}
 use Rattle.lockstep.proofs.Calm.{CalmCode, loaded_at, quiet_run}
 use Rattle.lockstep.proofs.Doom.{astray_fires}
-use Rattle.lockstep.proofs.Made.{lock_self}
+use Rattle.lockstep.proofs.ManyChanges.{lock_self}
 use Rattle.lockstep.proofs.OneStep.{branch_step}
 
 module _ (f g : Program) (w : World) (before per : ℕ) (code : CalmCode f g w before per) (regs : List ℕ) (are : AreStartRegs regs) (n : ℕ) (i : Ins) (go : (run (start g regs) n).outcome ≡ Going) (at : next (run (start g regs) n) ≡ Known i) (b : IsCheckedBranch i (run (start g regs) n)) (covered : Covers f g w.reached before per regs (n + 1 + 2)) where

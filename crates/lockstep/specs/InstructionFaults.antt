@@ -10,7 +10,7 @@ use Rattle.machine.specs.Loading.{loaded_file}
 use Rattle.qed_model.specs.Promise.Faults.{FaultsFound}
 use Rattle.qed_model.specs.Weave.Bounds.{end_bound}
 use Rattle.qed_model.specs.Weave.Sequences.{Block}
-use Rattle.qed_model.specs.Weave.Woven.{compared, woven_file, IsToldOf}
+use Rattle.qed_model.specs.Weave.Woven.{compared, woven_file, IsPlanOf}
 use Rattle.weave_core.specs.Tests.{IsWovenTest}
 use Rattle.lockstep.specs.WrongOnce.{PlacesFound, FaultsClean}
 
@@ -18,7 +18,7 @@ use Rattle.lockstep.specs.WrongOnce.{PlacesFound, FaultsClean}
 abbrev pub InstructionFaultsAreCaught : Type 0
 InstructionFaultsAreCaught =
     (f : ElfFile) (o : Options) (blocks : List Block) (words : List ℕ) (plan : Plan) → IsWovenTest f o blocks words
-    → IsToldOf (compared f o blocks) f o blocks plan
+    → IsPlanOf (compared f o blocks) f o blocks plan
     → (reached : ℕ → Bool) → AreReached f o reached
     → FaultsFound (loaded_file f) (loaded_file (file_read (woven_file f o blocks words))) reached
     (data_ranges (image_of f)) plan.bounds plan.bounds.start plan.bounds.piece
@@ -27,7 +27,7 @@ InstructionFaultsAreCaught =
 abbrev pub TestsPlaces : Type 0
 TestsPlaces =
     (f : ElfFile) (o : Options) (blocks : List Block) (words : List ℕ) (plan : Plan) → IsWovenTest f o blocks words
-    → IsToldOf (compared f o blocks) f o blocks plan
+    → IsPlanOf (compared f o blocks) f o blocks plan
     → (reached : ℕ → Bool) → AreReached f o reached
     → PlacesFound (loaded_file f) (loaded_file (file_read (woven_file f o blocks words))) reached
     (data_ranges (image_of f)) plan.bounds plan.bounds.start plan.bounds.piece

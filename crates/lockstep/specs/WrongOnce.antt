@@ -1,4 +1,4 @@
--- One instruction of a test that goes wrong once, a store to another place of the original half among them, and what is promised of it.
+-- What is promised if one instruction of a test goes wrong once, also by a store to another place.
 use Rattle.std.specs.Prelude.{◌≡◌, ◌≢◌, ◌⊎◌, ℕ, ◌+◌, ◌-◌, ◌<◌, ◌≤◌, Bool, List, Some}
 use Rattle.qed_model.specs.declared.bounds.Bounds.{Bounds}
 use Rattle.machine.specs.declared.outcome.Outcome.TheVariants.{Going, Ended, Fired}
@@ -23,8 +23,8 @@ pub record StoresElsewhere (spans : List (ℕ × ℕ)) (i : Ins) (u v : State) :
   pub last : IsDataWord spans (word_around (at + width_of i.kind - 1))
   pub is : v ≡ stored (put u.memory at (width_of i.kind) number) (next_pc u) u
 
--- v is the state behind the instruction i of u if it goes wrong once: it gives one of x1 to x13 any number, or stores any number
--- into data words, its own or others, or is skipped
+-- v is the state behind the instruction i of u if it goes wrong once: it gives one of x1 to x13 any number, or stores
+-- any number into data words, its own or others, or is skipped
 pub data WrongOnce (spans : List (ℕ × ℕ)) (i : Ins) (u v : State) : Type 0 where
   results : WritesOriginal i → GivesAny i u v → WrongOnce spans i u v
   stores : StoresOriginal spans i u → StoresAny i u v → WrongOnce spans i u v
@@ -38,8 +38,8 @@ pub record PlacesFound (f g : Program) (reached : ℕ → Bool) (spans : List (�
       → StoresElsewhere spans i (after_output g regs n) v → bounds.word ≡ Some b → Covers f g reached first bound regs (n + 1 + b)
       → SettlesWithin spans 0 b (run v) (λ k. after_output g regs (n + 1 + k))
 
--- if the output first ends after e steps, and the fault leaves `last` steps, the wrong run has fired after e steps, or has ended
--- with nothing of it left
+-- if the output first ends after e steps, and the fault leaves `last` steps, the wrong run has fired after e steps, or
+-- has ended with nothing of it left
 pub record FaultsClean (f g : Program) (reached : ℕ → Bool) (spans : List (ℕ × ℕ)) (last first bound : ℕ) : Type 0 where
   pub settles :
       (regs : List ℕ) (n e : ℕ) (i : Ins) (v : State) → AreStartRegs regs → (after_output g regs n).outcome ≡ Going → next (after_output g regs n) ≡ Known i

@@ -13,7 +13,7 @@ use Rattle.qed_model.specs.Weave.OutputFile.{rows_of_pieces}
 use Rattle.tests.proofs.Lemmas.{Spaced, are_spaced, spaced_data, image_room}
 use Rattle.block_split.specs.declared.block.CodeBlock.{CodeBlock}
 use Rattle.tests.specs.Ranges.{AreSpaced}
-use Rattle.output_file.specs.Told.{IsWhole, rows_of, end_of}
+use Rattle.output_file.specs.Plans.{IsWhole, rows_of, end_of}
 
 sum-cons : (n : ℕ) (ns : List ℕ) → sum (n ∷ ns) ≡ n + sum ns
 sum-cons n ns = sum_by-cons (λ x. x) n ns

@@ -5,5 +5,5 @@ pub mod Images
 pub mod Entries
 pub mod Sections
 pub mod Tests
-pub mod Told
+pub mod Plans
 pub mod Sizes

@@ -5,15 +5,15 @@ mod bytes;
 mod halves;
 mod laws;
 mod output;
+mod plans;
 mod ranges;
 mod sections;
 mod segments;
 mod symbols;
 mod table;
-mod told;
 
 pub use laws::entries_of_blocks;
 pub use output::{Code, bare_file, with_symbols};
+pub use plans::{plan, word_count};
 pub use symbols::symbols_size;
 pub use table::has_table;
-pub use told::{plan, word_count};

@@ -127,7 +127,7 @@ pub(crate) fn tell_machine(
     rest: &str,
 ) -> Result<Option<String>, AllocError> {
     let alloc = rt.alloc();
-    let told = match what {
+    let text = match what {
         "disk" => disk(rt, bench, rest)?,
         "never" => never(alloc, bench, rest)?,
         "narrow" => print_narrow(alloc, bench, rest)?,
@@ -135,5 +135,5 @@ pub(crate) fn tell_machine(
         "put" | "take" | "link" => move_file(rt, bench, what, rest)?,
         _ => return Ok(None),
     };
-    Ok(Some(told))
+    Ok(Some(text))
 }

@@ -6,7 +6,7 @@ use crate::bench::Bench;
 use crate::file_parts::read;
 use crate::shapes::bounds_line;
 use crate::struck::{closing, reach, strike};
-use crate::told::test;
+use crate::test_lines::test;
 use qed_words::fault;
 use std::alloc::{AllocError, Global};
 
@@ -33,8 +33,8 @@ fn test_line(
     };
     match what {
         "test" | "reached" => {
-            let told = test(alloc, bytes, &asked.options, what == "reached")?;
-            Ok(Some(told))
+            let text = test(alloc, bytes, &asked.options, what == "reached")?;
+            Ok(Some(text))
         }
         _ => Ok(Some(reach(alloc, bytes, &asked.options)?)),
     }

@@ -15,7 +15,7 @@ mod numbers;
 mod row;
 mod shapes;
 mod struck;
-mod told;
+mod test_lines;
 
 use crate::bench::Bench;
 use crate::row::tell;
@@ -24,8 +24,8 @@ use std::{env, fs, io};
 /// Prints a line, and its answer below it.
 fn print_line(rt: &HostRuntime, bench: &mut Bench, line: &str) -> io::Result<()> {
     println!(rt; "{line}")?;
-    let told = tell(rt, bench, line)?;
-    print!(rt; "{told}")
+    let text = tell(rt, bench, line)?;
+    print!(rt; "{text}")
 }
 
 /// Prints the lines of a file of rows, each with its answer.

@@ -17,7 +17,8 @@ use Rattle.qed_top.specs.Campaign.{CampaignDecides}
 use Rattle.qed_top.specs.Explain.{ExplainDecides}
 use Rattle.qed_top.specs.Gen.{GenDecides}
 use Rattle.qed_top.specs.Loads.{Decided, LoadedFiles, OverLoads, Files, file_bytes}
-use Rattle.qed_top.specs.Orders.{WordsCallFor, source_name, source_names, source_limit, stored_name, Order, Transform, Plan, Explain, Run, Campaign, Slips, Gen, Asm}
+use Rattle.qed_top.specs.Orders.{WordsCallFor, source_name, source_names, source_limit, stored_name}
+use Rattle.qed_top.specs.Orders.{Order, Transform, Plan, Explain, Run, Campaign, Slips, Gen, Asm}
 use Rattle.qed_top.specs.Orders.{Harts, Tell, asked}
 use Rattle.qed_top.specs.World.{FilesDecide}
 use Rattle.qed_top.specs.declared.answer.Answer.{Answer}

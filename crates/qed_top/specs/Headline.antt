@@ -11,7 +11,7 @@ use Rattle.machine.specs.Limits.{limit_of}
 use Rattle.machine.specs.Loading.{loaded_file, ElfFile}
 use Rattle.tests.specs.Admission.DataRanges.{range_of}
 use Rattle.tests.specs.Admission.Reached.{AreReached}
-use Rattle.qed_model.specs.Weave.Woven.{new_code, IsWithin, IsToldOf}
+use Rattle.qed_model.specs.Weave.Woven.{new_code, IsWithin, IsPlanOf}
 use Rattle.qed_model.specs.Weave.Output.{Woven}
 use Rattle.qed_words.specs.Text.Plan.{plan_line}
 use Rattle.qed_words.specs.Words.{asked}
@@ -41,7 +41,7 @@ pub record IsPromised (input : List ℕ) (options : Options) (output line : List
       → Promised test (loaded_file program) reached (map range_of plan.span) options woven.file.blocks plan
   pub taken : length input ≤ limit_of FileBytes
   pub within : IsWithin (new_code woven.file.file options woven.file.blocks) woven.out
-  pub told : IsToldOf (new_code woven.file.file options woven.file.blocks) woven.file.file options woven.file.blocks plan
+  pub told : IsPlanOf (new_code woven.file.file options woven.file.blocks) woven.file.file options woven.file.blocks plan
   pub printed : line ≡ plan_line plan
 
 -- OUT was stored, all other files are as they were, and the line was printed

@@ -8,7 +8,7 @@ pub use Rattle.qed_words.specs.declared.orders.Order.TheVariants.{Transform, Pla
 pub use Rattle.qed_words.specs.declared.orders.Reason.{Reason}
 use Rattle.qed_words.specs.Text.Usage.{reason_line}
 pub use Rattle.qed_words.specs.Words.{asked}
-use Rattle.report.specs.Told.{told_text}
+use Rattle.report.specs.Help.{help_text}
 use Rattle.qed_top.specs.Answer.{PrintsOnly, CallsFor}
 use Rattle.qed_top.specs.List.{Lists}
 use Rattle.qed_top.specs.Asm.{Assembles}
@@ -79,7 +79,7 @@ AnswersOver (Gen output seed size) bytes answer = Gens output seed size answer
 AnswersOver (order.List file) bytes answer = Lists bytes answer
 AnswersOver (Asm text output) bytes answer = Assembles bytes output answer
 AnswersOver (Harts files turns steps) bytes answer = ⊥
-AnswersOver (Tell topic) bytes answer = PrintsOnly Done (told_text topic) answer
+AnswersOver (Tell topic) bytes answer = PrintsOnly Done (help_text topic) answer
 
 -- what an order that reads at most one file calls for, with its loading; `rose` holds of a name whose failed loads rose
 abbrev pub SourceCallsFor : Order → Files → (List ℕ → Type 0) → Answer → Type 0

@@ -11,14 +11,14 @@ use crate::campaigns::{Asked, answer_campaign, answer_slips};
 use crate::explained::answer_explain;
 use crate::generated::answer_gen;
 use crate::list::answer_list;
-use crate::make::{answer_plan, answer_transform};
+use crate::outputs::{answer_plan, answer_transform};
 use crate::run::{Way, answer_run};
 use crate::status::Status;
 use campaign::Progress;
 use elf_types::Bytes;
 use qed_model::Limit;
 use qed_words::{Order, Reason};
-use report::{told_text, usage_text};
+use report::{help_text, usage_text};
 use std::alloc::{AllocError, Global};
 
 /// The name of the file that an order reads, if it reads one.
@@ -103,7 +103,7 @@ pub fn answer_order(
             Ok(answer_slips(alloc, bytes.as_slice(), &options, &asked, progress)?)
         }
         Order::Tell(topic) => {
-            let text = told_text(alloc, topic)?;
+            let text = help_text(alloc, topic)?;
             Ok(plain(Status::Done, text))
         }
         // It reads several files; one is too few.

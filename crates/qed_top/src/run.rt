@@ -105,8 +105,8 @@ fn reached_words(alloc: Global, test: &Test, file: &ElfFile) -> Result<BTreeSet<
     Ok(set)
 }
 
-/// A machine run from the start of a file, and the second line about the run; empty where the run looks for indirect
-/// jumps and there is no test.
+/// A machine run from the start of a file, and the second line about the run, which is empty if the run looks for
+/// indirect jumps of what is not a test.
 fn run_machine(
     alloc: Global,
     file: &ElfFile,

@@ -38,7 +38,8 @@ use Rattle.qed_words.specs.declared.keys.Value.TheVariants.{Flag, Number, Pages,
 use Rattle.qed_words.specs.declared.keys.Value.TheVariants as value
 use Rattle.qed_words.specs.declared.orders.Reason.{Reason}
 use Rattle.qed_words.specs.declared.orders.Reason.TheVariants.{NoCommand, UnknownCommand, EmptyWord, UnknownOption, Repeated, MissingValue, ExtraWord}
-use Rattle.qed_words.specs.declared.orders.Reason.TheVariants.{MissingFile, MissingOption, BadNumber, BadShape, OutOfRange, Split, AllEntries, FewSteps, SlipAndReached}
+use Rattle.qed_words.specs.declared.orders.Reason.TheVariants.{MissingFile, MissingOption, BadNumber, BadShape, OutOfRange, Split, AllEntries}
+use Rattle.qed_words.specs.declared.orders.Reason.TheVariants.{FewSteps, SlipAndReached}
 use Rattle.tests.specs.Options.{default_options}
 use Rattle.qed_model.specs.Weave.LeanBounds.{cost_of, entry_steps}
 use Rattle.qed_words.specs.Tables.{place_among, option_of, command_row_of, command_of, key_named}

@@ -1,7 +1,8 @@
 //! The order that words ask for.
 ghost use Rattle.std.specs.Prelude.{◌≡◌, Ok, IfOk, IfErr, map, option_and_then};
 ghost use Rattle.qed_words.specs.declared.orders.Key.TheVariants as key;
-ghost use Rattle.qed_words.specs.Words.{texts, dump as dump_of, places as places_of, is_slips as is_slips_of, draws as draws_of, value_of, file as file_of, files};
+ghost use Rattle.qed_words.specs.Words.{texts, dump as dump_of, places as places_of, is_slips as is_slips_of, draws as draws_of, value_of};
+ghost use Rattle.qed_words.specs.Words.{file as file_of, files};
 ghost use Rattle.qed_words.specs.Words.{steps_given as steps_given_of, watch_given as watch_given_of, order_of, asked};
 ghost use Rattle.qed_words.specs.Seen.{seen};
 ghost use Rattle.qed_words.specs.Sound.{IsSoundOrder};

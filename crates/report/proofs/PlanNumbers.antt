@@ -1,11 +1,13 @@
 -- All numbers of a plan are whole.
 use Rattle.std.proofs.Common.{◌≡◌, ℕ, List, [], ◌∷◌, Option, Some, None, map, refl, false}
+use Rattle.std.specs.Prelude.{codes}
+use Rattle.serde_json.specs.Data.{Members, member, no_members}
 use Rattle.serde_json.specs.View.{items_of}
-use Rattle.serde_json.specs.Written.{has_float, items_have_float}
+use Rattle.serde_json.specs.Written.{has_float, items_have_float, members_have_float}
 use Rattle.qed_model.specs.declared.plan.EntryRow.{EntryRow}
 use Rattle.qed_model.specs.declared.plan.PieceRow.{PieceRow}
 use Rattle.qed_model.specs.declared.plan.Plan.{Plan}
-use Rattle.report.specs.Plan.{bound_data, entry_data, piece_data, plan_data}
+use Rattle.report.specs.Plan.{count_data, bound_data, early_members, entry_data, piece_data, plan_data}
 
 bound_whole : (bound : Option ℕ) → has_float (bound_data bound) ≡ false
 bound_whole None = refl

@@ -5,4 +5,4 @@ pub mod SlipTally
 pub mod Generated
 pub mod Assembly
 pub mod World
-pub mod Told
+pub mod Help

@@ -4,7 +4,8 @@ use Rattle.std.specs.Fmt.{decimal}
 use Rattle.fault_inject.specs.declared.slips.SlipFound.{SlipFound}
 use Rattle.fault_inject.specs.declared.slips.SlipVerdict.{SlipVerdict}
 use Rattle.qed_words.specs.Text.Campaign.{ends_text}
-use Rattle.qed_words.specs.Text.Slips.{how_many_slips, is_fired_slip, is_trapped_slip, is_ended_slip, is_going_slip, is_unreached_slip, longest_slip, fired_behind}
+use Rattle.qed_words.specs.Text.Slips.{how_many_slips, is_fired_slip, is_trapped_slip, is_ended_slip, is_going_slip, is_unreached_slip}
+use Rattle.qed_words.specs.Text.Slips.{longest_slip, fired_behind}
 use Rattle.report.specs.declared.slip_tally.SlipTally.{SlipTally}
 
 -- the verdicts of slips, with how many ended right

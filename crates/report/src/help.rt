@@ -1,6 +1,6 @@
 //! The texts of `help` and `version`.
 ghost use Rattle.std.specs.Prelude.{◌≡◌, IfOk};
-ghost use Rattle.report.specs.Told.{told_text as told_text_of};
+ghost use Rattle.report.specs.Help.{help_text as help_text_of};
 
 use elf_types::Bytes;
 use qed_words::{Command, Topic};
@@ -157,8 +157,8 @@ pub const VERSION: &str = "qed 1.0.0
 ";
 
 /// The text about a topic.
-pub fn told(topic: Topic) -> &'static str
-    ensures { result.now ≡ told_text_of topic }
+pub fn topic_text(topic: Topic) -> &'static str
+    ensures { result.now ≡ help_text_of topic }
 {
     match topic {
         Topic::All | Topic::One(Command::Help | Command::Version) => HELP,
@@ -176,8 +176,8 @@ pub fn told(topic: Topic) -> &'static str
 }
 
 /// The text about a topic, as a copy.
-pub fn told_text(alloc: Global, topic: Topic) -> Result<Bytes, AllocError>
-    ensures { IfOk result (λ text. text ≡ told_text_of topic) }
+pub fn help_text(alloc: Global, topic: Topic) -> Result<Bytes, AllocError>
+    ensures { IfOk result (λ text. text ≡ help_text_of topic) }
 {
-    Bytes::copied(alloc, told(topic).as_bytes())
+    Bytes::copied(alloc, topic_text(topic).as_bytes())
 }

@@ -24,7 +24,7 @@ pub use assembly::{asm_error_text, assembly_text};
 pub use campaign::campaign_text;
 pub use errors::{error_text, read_fault_text};
 pub use generated::{Drawn, generated_text};
-pub use help::{told, told_text};
+pub use help::{help_text, topic_text};
 pub use limits::limit_text;
 pub use plan::plan_text;
 pub use run::{jumps_text, run_text, slipped_text};

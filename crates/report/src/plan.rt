@@ -17,7 +17,8 @@ fn bounds_value(alloc: Global, bounds: &Bounds) -> Result<Value, AllocError>
     match bounds.early_register {
         Some(early) => json!(in alloc; {"early_register": early, "early_word": bounds.early_word,
             "piece": bounds.piece, "register": bounds.register, "word": bounds.word}),
-        None => json!(in alloc; {"piece": bounds.piece, "register": bounds.register, "word": bounds.word}),
+        None =>
+            json!(in alloc; {"piece": bounds.piece, "register": bounds.register, "word": bounds.word}),
     }
 }
 

@@ -1,7 +1,8 @@
 //! What is printed about a run.
 ghost use Rattle.std.specs.Prelude.{◌≡◌, ◌+◌, ◌^◌, ◌<◌, ◌≤◌, ◌++◌, Some, IfSome, IfOk, string_bytes};
 ghost use Rattle.machine.specs.Memory.{Memory};
-ghost use Rattle.qed_words.specs.Text.Run.{cause_text, outcome_text, outcome_line, jumps_line, slipped_line, register_line, register_lines, run_lines, run_text};
+ghost use Rattle.qed_words.specs.Text.Run.{cause_text, outcome_text, outcome_line, jumps_line, slipped_line, register_line, register_lines, run_lines};
+ghost use Rattle.qed_words.specs.Text.Run.{run_text};
 ghost use Rattle.rv_step.specs.Harts.{with_memory};
 
 use crate::dump::dump_text;

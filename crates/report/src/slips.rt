@@ -86,8 +86,8 @@ fn slip_lines(alloc: Global, found: &[SlipFound]) -> Result<Vec<u8>, AllocError>
     Ok(text)
 }
 
-/// The text about slips of an output: a line for each, then what they show and the plan's bounds. `results` says whether
-/// it was asked for which ends are right.
+/// The text about slips of an output: a line for each, then what they show and the plan's bounds. `results` says
+/// whether it was asked for which ends are right.
 pub fn slips_text(
     alloc: Global,
     found: &[SlipFound],

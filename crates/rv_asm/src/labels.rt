@@ -59,7 +59,8 @@ impl<'a> Labels<'a> {
 
 /// Adds the label that a first word defines, where it defines one and none has its name.
 fn define_by<'a>(labels: &mut Labels<'a>, word: &'a [u8], label: Label) -> Result<(), AllocError>
-    ensures { OnOk result ((q : List ℕ) → label_named labels.new q ≡ option_or (label_named labels.old q) (if is_same_label q (label_in_of word.now) then Some label else None)) }
+    ensures { OnOk result ((q : List ℕ) → label_named labels.new q
+        ≡ option_or (label_named labels.old q) (if is_same_label q (label_in_of word.now) then Some label else None)) }
 {
     match label_in(word) {
         Some(name) => labels.define(name, label),

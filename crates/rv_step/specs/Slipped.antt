@@ -54,8 +54,7 @@ abbrev pub stores : Ins → ℕ → ℕ → State → State
 stores i a x s =
     cond (grants (λ f. f.write) s.memory a (width_of i.kind)) (stored (put s.memory a (width_of i.kind) x) (next_pc s) s) (trapped (cause.Store a) s)
 
--- the state behind an instruction that goes wrong so: it is skipped, gives a number, branches the other way, or stores a number or
--- at an address
+-- the state behind an instruction that goes wrong so: skipped, with a number, the other way, or with another store
 unfoldable pub slipped_as : Slip → Ins → State → State
 slipped_as Skip i s = moved s.regs (next_pc s) s
 slipped_as (Result x) i s = gives i x (execute (class_of i.kind) i s)

@@ -12,7 +12,7 @@ ghost use Rattle.rv_step.specs.Reached.{IsRunOfWords};
 ghost use Rattle.rv_step.specs.Windows.{WindowHasWords, IsHeld, IsKnown, IsTable, IsWindow};
 
 use crate::decoder::Decoder;
-use crate::range::Ranges;
+use crate::range::CodeRanges;
 use crate::source::{Instructions, Source, Words};
 use crate::table::Table;
 use crate::window::Window;
@@ -33,7 +33,7 @@ const FEW: u64 = 16384;
 pub struct Hart {
     pub(crate) regs: Regs,
     pub(crate) pc: u64,
-    pub(crate) ranges: Ranges,
+    pub(crate) ranges: CodeRanges,
     pub(crate) outcome: Outcome,
     pub(crate) steps: u64,
     /// Nothing rests on what it has kept.
@@ -59,7 +59,7 @@ impl Hart {
         Ok(Hart {
             regs: Regs::new(regs),
             pc: file.entry,
-            ranges: Ranges::of(alloc, code_ranges(alloc, file)?)?,
+            ranges: CodeRanges::of(alloc, code_ranges(alloc, file)?)?,
             outcome: Outcome::Going,
             steps: 0,
             decoder: Decoder::new(alloc)?,

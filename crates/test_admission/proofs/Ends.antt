@@ -12,7 +12,7 @@ use Rattle.tests.specs.Admission.Places.{high_of, image_of}
 use Rattle.machine.proofs.Lemmas.{among_every, every_all, among-map, among-kept, source_of, passing, any_passing}
 use Rattle.machine.specs.Members.{Among}
 use Rattle.tests.proofs.Lemmas.{spaced_data, spaced_from, in_data, in_from, in_parts, load_source, image_room, in_image, high_most, even_range}
-use Rattle.test_admission.specs.Made.{AllEnd}
+use Rattle.test_admission.specs.Ends.{AllEnd}
 
 -- a loaded segment that has bytes in memory is of the image
 load_high : (f : ElfFile) (l : LoadSegment) → Among l (loads_of f) → 0 < l.size → l.address + l.size ≤ high_of (image_of f)

@@ -8,5 +8,5 @@ pub mod Stretches
 pub mod Faults
 pub mod Words
 pub mod Checked
-pub mod Made
+pub mod Ends
 pub mod Admit

@@ -8,7 +8,7 @@ ghost use Rattle.test_admission.specs.Admit.{IsAdmittedAs};
 ghost use Rattle.test_admission.specs.Order.{IsCauseOf};
 
 use crate::check::check_rules;
-use crate::made::make_test;
+use crate::facts::make_test;
 use elf_types::ElfFile;
 use qed_model::{AdmitError, Options, Test};
 use std::alloc::Global;

@@ -5,9 +5,9 @@
 mod admission;
 mod check;
 mod data_ranges;
+mod facts;
 mod faults;
 mod header;
-mod made;
 mod places;
 mod rules;
 mod shape;

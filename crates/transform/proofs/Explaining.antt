@@ -16,7 +16,7 @@ use Rattle.weave.specs.Code.{code_begin, IsCut}
 use Rattle.transform.specs.declared.explained.Explained.{Explained}
 use Rattle.transform.specs.Explained.{IsExplained}
 use Rattle.transform.specs.Transform.{Transforms}
-use Rattle.transform.specs.Made.{code_for, IsCoded}
+use Rattle.transform.specs.Unwritten.{code_for, IsCoded}
 use Rattle.transform.proofs.Making.{test, size_is}
 
 -- both limits are within the room for the new code

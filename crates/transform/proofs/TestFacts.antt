@@ -20,7 +20,7 @@ use Rattle.bound_calc.specs.Fitting.{AreSmall}
 use Rattle.block_split.specs.declared.block.CodeBlock.{CodeBlock}
 use Rattle.block_split.specs.Listed.{block_of}
 use Rattle.output_file.specs.Entries.{AreEntries}
-use Rattle.output_file.specs.Told.{IsWhole}
+use Rattle.output_file.specs.Plans.{IsWhole}
 use Rattle.output_file.proofs.BlockEntries.{entries_are}
 use Rattle.weave.proofs.AdmittedFit.{words_below}
 use Rattle.weave_core.proofs.Lemmas.{admitted_image, IsImage, block_code, code_bounds}

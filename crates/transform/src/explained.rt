@@ -8,7 +8,7 @@ ghost use Rattle.transform.specs.Transform.{HasCause, IsTransformable, IsErrorOr
 use crate::code::code_of;
 use crate::cut::cut_test;
 use crate::error::TransformError;
-use crate::made::make;
+use crate::unwritten::output_of;
 use crate::whole::finish;
 use elf_types::ElfFile;
 use qed_model::{Options, RoleRow};
@@ -34,7 +34,7 @@ fn explain_made(alloc: Global, bytes: &[u8], options: &Options) -> Result<Explai
 {
     let cut = cut_test(alloc, bytes, options)?;
     let code = code_of(alloc, &cut, options, true)?;
-    let made = make(alloc, &cut, &code)?;
+    let made = output_of(alloc, &cut, &code)?;
     finish(alloc, made)?;
     let (linked, roles) = (code.linked, code.roles);
     Ok(Explained {

@@ -134,7 +134,8 @@ pub data Onward (w : World) (leader : ℕ → Bool) (held : State → ℕ → Ty
 -- either
 abbrev pub Left : World → Weave → (ℕ → Bool) → State → State → ℕ → Type 0
 Left w v leader u t least =
-    GoesTo w u 1 (v.leave_steps + v.end_steps) (λ n x. BothEnded w t x) ⊎ GoesTo w u least v.leave_steps (λ n x. Onward w leader (λ y a. v.held w y a ≡ true) t x)
+    GoesTo w u 1 (v.leave_steps + v.end_steps) (λ n x. BothEnded w t x)
+    ⊎ GoesTo w u least v.leave_steps (λ n x. Onward w leader (λ y a. v.held w y a ≡ true) t x)
 
 -- ---- the laws of the rows: where each sequence leads
 pub record Rows (w : World) (v : Weave) (leader : ℕ → Bool) : Type 0 where

@@ -39,7 +39,8 @@ abbrev pub WeaveLanded : Type 0
 WeaveLanded =
     (f g : Program) (w : World) (v : Weave) (blocks : List Block) (entries : List EntryRow) → PlanOf f g w v blocks → Rows w v (begins_at blocks)
     → Starts f g w v (begins_at blocks) → Guarded w v 4
-    → ((a e : ℕ) → IsEntry entries a e → (begins_at blocks a ≡ true) × (e ≡ w.entry a)) → LandedInStep 4 f g w.reached entries (most_before_start v) (stage_steps v)
+    → ((a e : ℕ) → IsEntry entries a e → (begins_at blocks a ≡ true) × (e ≡ w.entry a))
+    → LandedInStep 4 f g w.reached entries (most_before_start v) (stage_steps v)
 
 -- nothing else is code
 pub record OnlyCode (f g : Program) (w : World) (s : Sequences) (blocks : List Block) : Type 0 where

@@ -8,7 +8,7 @@ use Rattle.qed_model.specs.Weave.Placed.{sum_of_sizes}
 use Rattle.qed_model.specs.declared.item.Item.{Item}
 use Rattle.qed_model.specs.Weave.Sequences.{Form, Block, original, each_part, compare, visit, visit_word, times, piece, enter, leave, body_length, prologue, stub}
 use Rattle.qed_model.specs.Weave.Code.{block_items, entries_of, pieces_of, sequences}
-use Rattle.qed_model.specs.Weave.Woven.{items_in, is_far_code, code_size, compared, IsToldOf}
+use Rattle.qed_model.specs.Weave.Woven.{items_in, is_far_code, code_size, compared, IsPlanOf}
 use Rattle.qed_model.specs.Weave.Forms.{form_of, shape_of}
 use Rattle.qed_model.proofs.Lemmas.{size-append, IsCodeOf, any_reached}
 use Rattle.machine.specs.declared.limits.TheConstants.{MAX_NEAR_CODE_BYTES}
@@ -158,7 +158,7 @@ size : code_size far_test far_options far_blocks ≡ 1182628
 size = ap (λ b. sum_of_sizes b (items_in far_test far_options b far_blocks)) far ∙ far_size
 
 -- ---- its plan
-told : IsToldOf (compared far_test far_options far_blocks) far_test far_options far_blocks far_plan
+told : IsPlanOf (compared far_test far_options far_blocks) far_test far_options far_blocks far_plan
 told = record {
   base = refl;
   distance = refl;

@@ -9,7 +9,7 @@ use Rattle.tests.specs.Admission.Refusals.{IsAdmitted}
 use Rattle.qed_model.specs.Weave.Sequences.{Block, Falls, Stops}
 use Rattle.machine.specs.Members.{Every}
 use Rattle.qed_model.specs.Weave.Blocks.{AreBlocks, IsBlockOf}
-use Rattle.qed_model.specs.Weave.Woven.{compared, IsToldOf}
+use Rattle.qed_model.specs.Weave.Woven.{compared, IsPlanOf}
 use Rattle.qed_model.proofs.ExampleCode as code
 use Rattle.qed_model.proofs.ExampleBlocks as made
 use Rattle.qed_model.proofs.Lemmas.{IsCodeOf, options, defaults, swept}
@@ -75,5 +75,5 @@ loop_plan = record {
   bounds = record { piece = 120; register = 272; word = None; start = 32; early_register = None; early_word = None };
 }
 
-pub loop_told : IsToldOf (compared loop defaults loop_blocks) loop defaults loop_blocks loop_plan
+pub loop_told : IsPlanOf (compared loop defaults loop_blocks) loop defaults loop_blocks loop_plan
 loop_told = record { base = refl; distance = refl; words = refl; code_bytes = refl; entries = refl; pieces = refl; span = refl; bounds = refl }

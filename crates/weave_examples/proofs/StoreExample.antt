@@ -1,6 +1,6 @@
 -- A known test with a data word is admitted, and has the block, entry and bounds that `reference/qed plan` prints: lui
 -- x8, 0x20; ld x9, 0(x8); add x10, x9, x9; sd x10, 0(x8); ecall.
-use Rattle.std.proofs.Common.{inl, Bool, List, [], ◌∷◌, Some, refl, arith, false}
+use Rattle.std.proofs.Common.{inl, Bool, List, [], ◌∷◌, None, Some, refl, arith, false}
 use Rattle.std.specs.Prelude.{pos}
 use Rattle.qed_model.specs.declared.plan.Plan.{Plan}
 use Rattle.machine.specs.Table.{Lui, Ld, Add, Sd, Ecall, Ins, ins, ins_of, decode_of}
@@ -9,7 +9,7 @@ use Rattle.machine.specs.Members.{Every}
 use Rattle.tests.specs.Admission.Refusals.{IsAdmitted}
 use Rattle.qed_model.specs.Weave.Sequences.{Block, Stops}
 use Rattle.qed_model.specs.Weave.Blocks.{AreBlocks, IsBlockOf}
-use Rattle.qed_model.specs.Weave.Woven.{compared, IsToldOf}
+use Rattle.qed_model.specs.Weave.Woven.{compared, IsPlanOf}
 use Rattle.qed_model.proofs.ExampleCode as code
 use Rattle.qed_model.proofs.ExampleBlocks as made
 use Rattle.qed_model.proofs.Lemmas.{IsCodeOf, options, defaults, swept}
@@ -68,5 +68,5 @@ store_plan = record {
   bounds = record { piece = 120; register = 272; word = Some 392; start = 32; early_register = None; early_word = None };
 }
 
-pub store_told : IsToldOf (compared store defaults store_blocks) store defaults store_blocks store_plan
+pub store_told : IsPlanOf (compared store defaults store_blocks) store defaults store_blocks store_plan
 store_told = record { base = refl; distance = refl; words = refl; code_bytes = refl; entries = refl; pieces = refl; span = refl; bounds = refl }

@@ -15,7 +15,7 @@ use Rattle.qed_model.specs.Promise.OwnSteps.{KeptInStep}
 use Rattle.qed_model.specs.Promise.Kept.{any_address}
 use Rattle.qed_model.specs.Weave.OutputFile.{has_table, piece_rows}
 use Rattle.qed_model.specs.Weave.Sequences.{Block, Stops}
-use Rattle.qed_model.specs.Weave.Woven.{is_far_code, new_entries, compared, woven_file, IsToldOf}
+use Rattle.qed_model.specs.Weave.Woven.{is_far_code, new_entries, compared, woven_file, IsPlanOf}
 use Rattle.weave_core.specs.Tests.{IsWovenTest}
 
 -- ---- its bytes
@@ -99,7 +99,8 @@ jalr = ins Jalr 0 1 0 (pos 0)
 
 abbrev pub far_code : List Ins
 far_code =
-    lui_8 ∷ next_jump ∷ ld_5 ∷ next_jump ∷ lui_9 ∷ next_jump ∷ sd_5 ∷ next_jump ∷ ld_6 ∷ next_jump ∷ mul ∷ next_jump ∷ sub ∷ next_jump ∷ call ∷ ecall ∷ add ∷ jalr ∷ []
+    lui_8 ∷ next_jump ∷ ld_5 ∷ next_jump ∷ lui_9 ∷ next_jump ∷ sd_5 ∷ next_jump
+    ∷ ld_6 ∷ next_jump ∷ mul ∷ next_jump ∷ sub ∷ next_jump ∷ call ∷ ecall ∷ add ∷ jalr ∷ []
 
 -- a block of one instruction and the jump behind it, and one of an end alone
 abbrev one : ℕ → Ins → Ins → Block
@@ -110,8 +111,10 @@ bare a e = record { start = a; body = [] ∷ []; end = Stops e; reached = false 
 
 abbrev pub far_blocks : List Block
 far_blocks =
-    one 0x10000 lui_8 next_jump ∷ bare 0x10004 next_jump ∷ one 0x10008 ld_5 next_jump ∷ bare 0x1000c next_jump ∷ one 0x10010 lui_9 next_jump ∷ bare 0x10014 next_jump
-    ∷ one 0x10018 sd_5 next_jump ∷ bare 0x1001c next_jump ∷ one 0x10020 ld_6 next_jump ∷ bare 0x10024 next_jump ∷ one 0x10028 mul next_jump ∷ bare 0x1002c next_jump
+    one 0x10000 lui_8 next_jump ∷ bare 0x10004 next_jump ∷ one 0x10008 ld_5 next_jump ∷ bare 0x1000c next_jump
+    ∷ one 0x10010 lui_9 next_jump ∷ bare 0x10014 next_jump
+    ∷ one 0x10018 sd_5 next_jump ∷ bare 0x1001c next_jump ∷ one 0x10020 ld_6 next_jump ∷ bare 0x10024 next_jump
+    ∷ one 0x10028 mul next_jump ∷ bare 0x1002c next_jump
     ∷ one 0x10030 sub next_jump ∷ bare 0x10034 next_jump ∷ bare 0x10038 call ∷ bare 0x1003c ecall ∷ one 0x10040 add jalr ∷ bare 0x10044 jalr ∷ []
 
 -- ---- the plan of its output
@@ -140,7 +143,7 @@ pub record FarPromised : Type 0 where
   pub woven : IsWovenTest far_test far_options far_blocks words
   pub far : is_far_code far_test far_options far_blocks ≡ true
   pub table : has_table far_blocks ≡ true
-  pub told : IsToldOf (compared far_test far_options far_blocks) far_test far_options far_blocks far_plan
+  pub told : IsPlanOf (compared far_test far_options far_blocks) far_test far_options far_blocks far_plan
   pub kept : KeptInStep (loaded_file far_test) (far_output words) any_address far_plan.distance 67 13470
   pub landed : LandedInStep 4 (loaded_file far_test) (far_output words) any_address far_plan.entries 67 13470
   pub caught : CaughtInStep (loaded_file far_test) (far_output words) any_address far_ranges far_plan.bounds 67 13470

@@ -1,4 +1,4 @@
--- Words that write only some registers and go on, or skip a word: a run with what they keep gets behind them all, or is over.
+-- Words that write only some registers and go on, or skip a word: a run gets behind them all with what they keep.
 use Rattle.std.proofs.Common.{◌≡◌, ℕ, zero, suc, ◌+◌, ◌*◌, ◌%◌, ◌^◌, ◌≤◌, ◌⊎◌, inl, inr, ⊎_elim, Bool, true, false, cond, List, [], ◌∷◌, ◌++◌, refl, sym, ap, ◌∙◌, subst, arith}
 use Rattle.std.specs.Prelude.{◌==◌, pos}
 use Rattle.std.specs.List.{list_all}

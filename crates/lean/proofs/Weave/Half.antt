@@ -1,4 +1,4 @@
--- The original half of the output alone has the input's values, whatever pairs, counter and duplicate half have: what words do to it.
+-- What words do if the original half alone has the input's values, whatever else the state has.
 use Rattle.std.proofs.Common.{◌≡◌, ℕ, zero, suc, ◌+◌, ◌*◌, ◌^◌, ◌<◌, ◌≤◌, ◌⊎◌, inl, inr, ⊎_elim, Bool, true, false, cond, not, List, length, is_some, refl, sym, ap, ◌∙◌, subst, arith}
 use Rattle.std.specs.Prelude.{◌==◌, ◌&&◌, ◌||◌, nat_le, slice_index}
 use Rattle.std.proofs.lemmas.Bool.{and_parts, or_cases, eqb-true, eq-eqb, leb-true, cases_eq, false≢true, not-true, and_from, or_right, le-leb, ne_eqb}

@@ -1,4 +1,4 @@
--- Any state at the entry of a block, with a wrong signature or a wrong number in x14: the run is over soon, whatever x15 has.
+-- At the entry of a block with a wrong signature or a wrong x14 the run is over soon, whatever x15 has.
 use Rattle.std.proofs.Common.{ℕ, ◌+◌, inl, inr, ⊎_elim, Bool, true, List, refl, arith}
 use Rattle.qed_model.specs.Weave.Blocks.{begins_at}
 use Rattle.qed_model.specs.Weave.LeanCode.{Lean}

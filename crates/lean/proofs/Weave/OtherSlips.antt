@@ -1,5 +1,5 @@
--- One instruction of the output that is none of the test's own, and does not write into the duplicate half, goes wrong: the slips of
--- the game.
+-- One instruction of the output that is none of the test's own, and does not write into the duplicate half, goes wrong:
+-- the slips of the game.
 use Rattle.std.proofs.Common.{◌≡◌, ℕ, zero, suc, ◌+◌, ◌≤◌, ⊎_elim, Bool, true, false, List, sym, ap, ◌∙◌, arith}
 use Rattle.std.specs.Prelude.{slice_index}
 use Rattle.std.proofs.lemmas.List.{set-get_or}

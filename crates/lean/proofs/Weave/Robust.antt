@@ -163,8 +163,8 @@ module _ (w : World) (near : w.form.far ≡ false) where
 
 -- ---- slips
 module _ (w : World) where
-  -- v is the state behind an instruction i of u that goes wrong once. It gives x14 to x31 any number, or stores anything in the
-  -- duplicate half. A branch goes on or jumps; a jump or the end is skipped
+  -- v is the state behind an instruction i of u that goes wrong once. It gives x14 to x31 any number, or stores
+  -- anything in the duplicate half. A branch goes on or jumps; a jump or the end is skipped
   pub data Slip (i : Ins) (u v : State) : Type 0 where
     gives : (x : ℕ) → (class_of i.kind ≡ class.Compute) ⊎ (class_of i.kind ≡ class.Load) → 14 ≤ i.rd → x < 2 ^ 64 → v ≡ moved (set_reg i.rd x u.regs) (u.pc + 4) u → Slip i u v
     passes : class_of i.kind ≡ class.Branch → v ≡ moved u.regs (u.pc + 4) u → Slip i u v
@@ -260,10 +260,10 @@ stopped_step n u s = record { steps = suc s.steps; within = omega (arith, s.with
 
 module _ (w : World) (bound price : ℕ) where
   -- ---- robust states
-  -- A game of n moves, each a step or a change, or once a slip if there was no change before. The run comes to k states of the
-  -- input, one after the other, or is over. It takes m steps to the first of them, t, and `bound` more to each later one. A
-  -- change costs `price` more, and there are none if that is below the bound. Behind a slip the run is over soon, or it is as
-  -- without it, or it costs `price` more
+  -- A game of n moves, each a step or a change, or once a slip if there was no change before. The run comes to k states
+  -- of the input, one after the other, or is over. It takes m steps to the first of them, t, and `bound` more to each
+  -- later one. A change costs `price` more, and there are none if that is below the bound. Behind a slip the run is
+  -- over soon, or it is as without it, or it costs `price` more
   unfoldable pub Robust : (slip : Bool) (n k : ℕ) (t : State) (m : ℕ) (u : State) → Type 0
   Robust slip zero k t m u = Unit {0}
   Robust slip (suc n) zero t m u = Unit {0}
@@ -285,7 +285,8 @@ module _ (w : World) (bound price : ℕ) where
     (r.1.0, λ e. absurd (false≢true e)),
   )
 
-  -- each state with the property D is robust; D also has the steps that are left, and S what is asked of k states from t on
+  -- each state with the property D is robust; D also has the steps that are left, and S what is asked of k states from
+  -- t on
   abbrev pub EveryOf : Bool → (ℕ → Type 0) → State → ℕ → ℕ → (ℕ → State → Type 0) → Type 0
   EveryOf slip S t N K D = (n k m : ℕ) (u : State) → n ≤ N → k ≤ K → S k → D m u → Robust slip n k t m u
 

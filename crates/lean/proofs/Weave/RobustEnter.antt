@@ -1,4 +1,5 @@
--- An entry, under changes of the duplicate half, and with a slip: its tick passes, or the check returns to it, and then it passes or it cost a change.
+-- An entry, under changes of the duplicate half, and with a slip: its tick passes, or the check returns to it, and then
+-- it passes or it cost a change.
 use Rattle.std.proofs.Common.{◌≡◌, ℕ, zero, suc, ◌+◌, ◌*◌, ◌%◌, ◌^◌, ◌<◌, ◌≤◌, ◌⊎◌, inl, inr, ⊎_elim, Bool, true, false, cond, List, [], ◌∷◌, ◌++◌, refl, sym, ap, ◌∙◌, subst, append_assoc, arith}
 use Rattle.std.specs.Prelude.{◌-◌, pos}
 use Rattle.std.proofs.lemmas.Bool.{cases_lt}

@@ -1,4 +1,5 @@
--- A leave, where the duplicate half changes at any steps and one instruction slips: the next entry has the input's values in the original half, or the run is over.
+-- A leave, where the duplicate half changes at any steps and one instruction slips: the next entry has the input's
+-- values in the original half, or the run is over.
 use Rattle.std.proofs.Common.{◌≡◌, ℕ, zero, suc, ◌+◌, ◌%◌, ◌^◌, ◌<◌, ◌≤◌, ◌⊎◌, inl, inr, ⊎_elim, Bool, true, false, cond, not, List, [], ◌∷◌, ◌++◌, refl, sym, ap, ◌∙◌, subst, arith, append_assoc}
 use Rattle.std.specs.Prelude.{◌==◌, ◌||◌, ◌-◌, ℤ, pos, neg_ℤ, nat_le, slice_index, ◌+ℤ◌, ◌-ℤ◌}
 use Rattle.std.proofs.lemmas.Bool.{or_cases, or_right, eqb-true, le-leb, leb-true, cases_eq, ne_eqb, false≢true}

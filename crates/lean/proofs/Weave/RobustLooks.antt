@@ -1,4 +1,4 @@
--- The look-ups of the check and of a JALR, under changes and with a slip: behind them x30 has the entry of the signature.
+-- The look-ups of the check and of a JALR, under changes and with a slip: then x30 has the signature's entry.
 use Rattle.std.proofs.Common.{◌≡◌, ℕ, suc, ◌+◌, ◌*◌, ◌%◌, ◌^◌, ◌<◌, ◌≤◌, ◌⊎◌, inl, inr, ⊎_elim, Bool, true, false, List, [], ◌∷◌, ◌++◌, length, refl, sym, ap, ◌∙◌, subst, arith}
 use Rattle.std.specs.Prelude.{◌==◌, ◌||◌, ◌-◌, slice_index, pos}
 use Rattle.std.proofs.lemmas.Bool.{cases_eq, eqb-true, or_cases, false≢true}

@@ -1,4 +1,4 @@
--- What runs first, with changes of the duplicate half and a slip: the entry of the test with the input's first state in the original half.
+-- What runs first, with changes and a slip: at the test's entry the original half has the input's first state.
 use Rattle.std.proofs.Common.{◌≡◌, ℕ, zero, suc, ◌+◌, ◌%◌, ◌^◌, ◌<◌, ◌≤◌, ◌⊎◌, inl, inr, ⊎_elim, Bool, true, false, List, [], ◌∷◌, ◌++◌, length, refl, sym, ap, ◌∙◌, subst, arith}
 use Rattle.std.specs.Prelude.{ℤ, pos, slice_index, slice_set, replicate}
 use Rattle.std.proofs.lemmas.Bool.{cases_eq}

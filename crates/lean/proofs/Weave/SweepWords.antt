@@ -1,4 +1,5 @@
--- The words of the sweep, of the comparison behind it and of the end: a run at them stays there until it is over, and none is the test's own.
+-- The words of the sweep, of the comparison behind it and of the end: a run at them stays there until it is over, and
+-- none is the test's own.
 use Rattle.std.proofs.Common.{◌≡◌, ℕ, zero, suc, ◌+◌, ◌-◌, ◌*◌, ◌/◌, ◌%◌, ◌^◌, ◌<◌, ◌≤◌, ◌⊎◌, inl, inr, ⊎_elim, Bool, true, false, cond, List, [], ◌∷◌, ◌++◌, refl, sym, ap, ◌∙◌, subst, arith}
 use Rattle.std.specs.Prelude.{◌==◌, pos}
 use Rattle.rv_isa.specs.declared.class.Class.TheVariants as class

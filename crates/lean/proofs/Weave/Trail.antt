@@ -1,4 +1,4 @@
--- A run that the duplicate half of a state is changed in, from a robust state: when it comes to each state of the input.
+-- A run with changes of the duplicate half, from a robust state: when it comes to each state of the input.
 use Rattle.std.proofs.Common.{◌≡◌, ℕ, zero, suc, ◌+◌, ◌*◌, ◌^◌, ◌<◌, ◌≤◌, ◌⊎◌, inl, inr, ⊎_elim, Bool, true, false, cond, List, [], ◌∷◌, length, refl, sym, ap, ◌∙◌, subst, arith}
 use Rattle.std.specs.Prelude.{◌==◌, ◌-◌, nat_le, slice_index}
 use Rattle.std.proofs.Math.Nat.{mul-le-mul_left, mul-le-mul_right}
@@ -58,8 +58,8 @@ over_ends v j i h o e =
 
 module _ (w : World) where
   -- ---- runs with changes
-  -- each state is a step behind the one before, or that with the duplicate half changed. There are at most `all` such changes,
-  -- and `made` counts them
+  -- each state is a step behind the one before, or that with the duplicate half changed. There are at most `all` such
+  -- changes, and `made` counts them
   pub record Played (y : ℕ → State) (all : ℕ) : Type 0 where
     pub made : ℕ → ℕ
     pub few : (j : ℕ) → made j ≤ all

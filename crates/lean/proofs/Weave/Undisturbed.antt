@@ -221,7 +221,7 @@ module _ (f g : Program) (w : World) (l : Lean) (blocks : List Block) (p : LeanP
     known_entry : IsEntryOf w f.entry
     known_entry = p.sound.known f.entry p.begins
 
-    -- with a slip the word before it makes that state, and the jump leads to the entry, or is skipped and leads to the check
+    -- with a slip the word before it makes that state, and the jump leads to the entry, or to the check if skipped
     jumps_on : (N K : ℕ) → Onto w bound dear true N K s0 (1 + most) Jumps
     jumps_on N K =
         leads_word w bound dear true (IsSteady w.reached s0) (step s0) N K Jumps (Entered w l leader p.sound bound dear true s0) most (1 + most) (omega arith)

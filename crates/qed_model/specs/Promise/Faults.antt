@@ -1,4 +1,4 @@
--- Wrong instructions: once an original instruction of a test gives another result or is skipped, or a branch of the output goes the wrong way.
+-- Wrong instructions: once one of the test gives another result or is skipped, or a branch goes the wrong way.
 use Rattle.std.specs.Prelude.{◌≡◌, ◌⊎◌, ℕ, ◌+◌, ◌-◌, ◌*◌, ◌/◌, ◌≤◌, Bool, true, false, List, Some}
 use Rattle.rv_isa.specs.declared.class.Class.TheVariants as class
 use Rattle.rv_isa.specs.declared.profile.TheConstants.{LAST_ORIGINAL}
@@ -64,8 +64,8 @@ other_way false i u = jumped u.regs (target i u.pc) u
 abbrev pub misled : Ins → State → State
 misled i u = other_way (holds i.kind (reg u i.rs1) (reg u i.rs2)) i u
 
--- what follows within `most` steps: a check fires; or it is the unchanged run again, since both ways lead to one place; or
--- it traps, where no instruction of the input has its entry
+-- what follows within `most` steps: a check fires; or it is the unchanged run again, since both ways lead to one place;
+-- or it traps, where no instruction of the input has its entry
 pub data IsTurned (most : ℕ) (v unchanged : State) : Type 0 where
   turns : Fires most v → IsTurned most v unchanged
   joins : run v most ≡ unchanged → IsTurned most v unchanged

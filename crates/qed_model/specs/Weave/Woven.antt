@@ -129,7 +129,7 @@ pub record IsWithin (c : NewCode) (out : OutFile) : Type 0 where
 
 -- ---- the plan
 -- the places, the data words, the size of the new code, its entries and pieces, and the bounds
-pub record IsToldOf (c : NewCode) (f : ElfFile) (o : Options) (blocks : List Block) (plan : Plan) : Type 0 where
+pub record IsPlanOf (c : NewCode) (f : ElfFile) (o : Options) (blocks : List Block) (plan : Plan) : Type 0 where
   pub base : plan.base ≡ base_of (image_of f)
   pub distance : plan.distance ≡ half_of o.half (image_of f)
   pub words : plan.words ≡ word_count (data_ranges (image_of f))

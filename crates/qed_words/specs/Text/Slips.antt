@@ -34,7 +34,8 @@ right_text _ _ = []
 -- a slip, its number, and what it shows
 abbrev pub slip_line : ℕ → SlipFound → List ℕ
 slip_line i s =
-    decimal i ++ (codes " step " ++ (decimal s.at.step ++ (codes " " ++ (slip_text s.at.slip ++ (codes " " ++ (shown_text s.verdict ++ (right_text s.verdict s.right ++ codes "\n")))))))
+    decimal i ++ (codes " step " ++ (decimal s.at.step ++ (codes " " ++ (slip_text s.at.slip ++ (codes " "
+    ++ (shown_text s.verdict ++ (right_text s.verdict s.right ++ codes "\n")))))))
 
 -- slips by their numbers, from i on
 abbrev pub slip_lines : ℕ → List SlipFound → List ℕ

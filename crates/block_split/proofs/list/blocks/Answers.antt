@@ -5,7 +5,7 @@ use Rattle.flow_recovery.specs.Sets.{lists}
 use Rattle.qed_model.specs.Weave.Blocks.{AreBlocks}
 use Rattle.block_split.specs.Listed.{block_of, IsWithinTop}
 use Rattle.block_split.proofs.BlockLaws.{are_blocks, same_built}
-use Rattle.block_split.proofs.ExtentLaws.{blocks_within}
+use Rattle.block_split.proofs.WithinLaws.{blocks_within}
 use Rattle.block_split.proofs.list.blocks.Goals as goal
 
 pub returns-clause-exact : goal.returns-clause-exact

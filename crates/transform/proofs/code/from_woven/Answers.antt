@@ -6,7 +6,7 @@ use Rattle.qed_model.specs.Weave.Forms.{shape_of}
 use Rattle.qed_model.specs.Weave.OutputFile.{has_table}
 use Rattle.qed_model.specs.Weave.Parts.{code_parts, role_rows}
 use Rattle.weave.proofs.AdmittedFit.{blocks_fit}
-use Rattle.transform.specs.Made.{code_for}
+use Rattle.transform.specs.Unwritten.{code_for}
 use Rattle.transform.proofs.TestFacts.{small, found_some, found_is}
 use Rattle.transform.proofs.code.from_woven.Goals as goal
 

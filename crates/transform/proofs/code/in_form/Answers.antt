@@ -1,7 +1,7 @@
 use Rattle.std.proofs.Common.{◌∙◌, subst}
 use Rattle.std.specs.Prelude.{IfErr}
 use Rattle.weave.specs.Code.{HasCodeCause}
-use Rattle.transform.specs.Made.{code_for}
+use Rattle.transform.specs.Unwritten.{code_for}
 use Rattle.transform.proofs.code.in_form.Goals as goal
 
 pub returns-in-Err-clause-refused : goal.returns-in-Err-clause-refused

@@ -1,6 +1,6 @@
 use Rattle.std.proofs.Common.{subst}
 use Rattle.weave.specs.Code.{HasCodeCause}
-use Rattle.transform.specs.Made.{code_for}
+use Rattle.transform.specs.Unwritten.{code_for}
 use Rattle.transform.proofs.Making.{too_much}
 use Rattle.transform.proofs.code.refused.Goals as goal
 

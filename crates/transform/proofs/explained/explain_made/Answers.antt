@@ -1,10 +1,10 @@
 use Rattle.std.proofs.Common.{◌+◌, ◌*◌, refl}
-use Rattle.transform.specs.Made.{IsMadeFile}
+use Rattle.transform.specs.Unwritten.{IsUnwritten}
 use Rattle.transform.proofs.Explaining.{explained_of}
 use Rattle.transform.proofs.explained.explain_made.Goals as goal
 
-pub make-requires-clause-coded : goal.make-requires-clause-coded
-make-requires-clause-coded c = (c.args.options.now, c.in_ok-cut.ensures.cut, c.in_ok-code.ensures.code)
+pub output_of-requires-clause-coded : goal.output_of-requires-clause-coded
+output_of-requires-clause-coded c = (c.args.options.now, c.in_ok-cut.ensures.cut, c.in_ok-code.ensures.code)
 
 pub finish-requires : goal.finish-requires
 finish-requires c =

@@ -3,16 +3,16 @@ use Rattle.elf_types.specs.declared.file.ElfFile.{ElfFile}
 use Rattle.tests.specs.declared.options.Options.{Options}
 use Rattle.tests.specs.Files.File.{IsReadAs}
 use Rattle.block_split.specs.declared.block.CodeBlock.{CodeBlock}
-use Rattle.transform.specs.Made.{IsMadeFile}
+use Rattle.transform.specs.Unwritten.{IsUnwritten}
 use Rattle.transform.specs.declared.error.TransformError.{TransformError}
 use Rattle.transform.specs.declared.error.TransformError.TheVariants as error
-use Rattle.transform.specs.declared.made.Made.{Made}
+use Rattle.transform.specs.declared.unwritten.Unwritten.{Unwritten}
 use Rattle.transform.specs.Transform.{HasCause}
 use Rattle.transform.proofs.Promises.{writes, done, exceeded, if_err}
 use Rattle.transform.proofs.whole.finish.Goals as goal
 
-abbrev Refused : Made → TransformError → Type 0
-Refused made e = (input : List ℕ) (f : ElfFile) (o : Options) (blocks : List CodeBlock) → IsReadAs input f → IsMadeFile f o blocks made.out made.plan → HasCause input o e
+abbrev Refused : Unwritten → TransformError → Type 0
+Refused made e = (input : List ℕ) (f : ElfFile) (o : Options) (blocks : List CodeBlock) → IsReadAs input f → IsUnwritten f o blocks made.out made.plan → HasCause input o e
 
 pub returns-in_err-check_limits-clause-refused : goal.returns-in_err-check_limits-clause-refused
 returns-in_err-check_limits-clause-refused c =

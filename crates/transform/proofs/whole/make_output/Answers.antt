@@ -1,8 +1,8 @@
 use Rattle.std.proofs.lemmas.Result.{IfOk-weaker, IfErr-weaker}
 use Rattle.transform.proofs.whole.make_output.Goals as goal
 
-pub make-requires-clause-coded : goal.make-requires-clause-coded
-make-requires-clause-coded c = (c.args.options.now, c.in_ok-cut.ensures.cut, c.in_ok-code.ensures.code)
+pub output_of-requires-clause-coded : goal.output_of-requires-clause-coded
+output_of-requires-clause-coded c = (c.args.options.now, c.in_ok-cut.ensures.cut, c.in_ok-code.ensures.code)
 
 pub finish-requires : goal.finish-requires
 finish-requires c =
